@@ -6,6 +6,7 @@ use Rattle.club_disk.specs.Stored.{ClubStore}
 use Rattle.evening_commands.specs.People.{people_text}
 use Rattle.line_text.specs.Streams.{Stream}
 use Rattle.session_pair.specs.Joining.{IsOne}
+use Rattle.session_pair.specs.declared.joining.Judged.{Judged}
 use Rattle.pair_pages.specs.Pair.{are_settled, pair_of}
 use Rattle.pair_pages.specs.declared.pair_server.PairServer.{PairServer}
 use Rattle.session_rules.specs.declared.action.Action.{Action}
@@ -35,10 +36,10 @@ ended_at {D} {E} server last stopped standing disk_first has_clock ended same st
     (stands ∙ ap (λ (p : ServerOver D E). standing_of p.first.failed p.second.failed) same)
 
 -- pages were shown over these stores at the site of the program and the words
-pub joined_shown : (texts : PageTexts) (web : WebHost) (names : Names) (disk_first was_level : Bool) (v w : ClubStore) (site : Site)
+pub joined_shown : (texts : PageTexts) (web : WebHost) (names : Names) (judged : Judged) (v w : ClubStore) (site : Site)
     (begun start last : PairServer ClubStore ClubStore) (output : Stream) (ended : Ended)
     → site ≡ site_at texts web (people_text names v.state.configuration.pairs) → start ≡ begun → IsBegun v w begun
-    → ShowsPairAt was_level site disk_first start last output ended
-    → ShowsJoinedWith texts web output ended names disk_first was_level v w
-joined_shown texts web names disk_first was_level v w site begun start last output ended at same begins shown =
+    → ShowsPairAt judged site start last output ended
+    → ShowsJoinedWith texts web output ended names judged v w
+joined_shown texts web names judged v w site begun start last output ended at same begins shown =
     inr (site, start, last, at, subst (λ (p : PairServer ClubStore ClubStore). IsBegun v w p) (sym same) begins, shown)

@@ -120,10 +120,11 @@ IsNothingShown output ended = (fault : RunFault) × (ended ≡ Err fault) × IsU
 
 -- It is said how the disks stood to each other and where the pages are, and they were shown; or a write of that failed; or nothing
 -- was shown.
-abbrev pub ShowsPairAt : Bool → Site → Bool → PairServer ClubStore ClubStore → PairServer ClubStore ClubStore → Stream → Ended → Type 0
-ShowsPairAt was_level site disk_first start last output ended =
-    (Takes output (level_line was_level ++ listening_line site.host) × ShowsPair file_disk file_disk site disk_first start last ended)
-    ⊎ ((TakesPrefix output (level_line was_level ++ listening_line site.host) × (ended ≡ Err (StreamFault Write)))
+abbrev pub ShowsPairAt : Judged → Site → PairServer ClubStore ClubStore → PairServer ClubStore ClubStore → Stream → Ended → Type 0
+ShowsPairAt judged site start last output ended =
+    (Takes output (level_line judged.was_level ++ listening_line site.host)
+    × ShowsPair file_disk file_disk site judged.disk_first start last ended)
+    ⊎ ((TakesPrefix output (level_line judged.was_level ++ listening_line site.host) × (ended ≡ Err (StreamFault Write)))
     ⊎ IsNothingShown output ended)
 
 -- the stores of a pair, as pages are shown over it
@@ -135,23 +136,26 @@ pub record IsBegun (v w : ClubStore) (start : PairServer ClubStore ClubStore) : 
 -- over what pages are shown and where, and over what was written and how it ended
 module _ (texts : PageTexts) (web : WebHost) (output : Stream) (ended : Ended) where
   -- pages were shown over these stores where the words say, with the names of a list or none
-  abbrev pub ShowsJoinedWith : Names → Bool → Bool → ClubStore → ClubStore → Type 0
-  ShowsJoinedWith names disk_first was_level v w = IsNothingShown output ended
+  abbrev pub ShowsJoinedWith : Names → Judged → ClubStore → ClubStore → Type 0
+  ShowsJoinedWith names judged v w = IsNothingShown output ended
       ⊎ ((site : Site) × (start : PairServer ClubStore ClubStore) × (last : PairServer ClubStore ClubStore)
       × (site ≡ site_at texts web (people_text names v.state.configuration.pairs)) × IsBegun v w start
-      × ShowsPairAt was_level site disk_first start last output ended)
+      × ShowsPairAt judged site start last output ended)
 
   -- where the list has another number of pairs that is said, and is the fault
-  abbrev pub ShowsJoined : Names → Bool → Bool → ClubStore → ClubStore → Type 0
-  ShowsJoined names disk_first was_level v w =
-      MatchBool (fits names (length v.state.configuration.pairs)) (ShowsJoinedWith names disk_first was_level v w)
-      (RefusesList OtherPairs output ended)
+  abbrev pub ShowsJoined : Names → Judged → ClubStore → ClubStore → Type 0
+  ShowsJoined names judged v w =
+      MatchBool (fits names (length v.state.configuration.pairs)) (ShowsJoinedWith names judged v w) (RefusesList OtherPairs output ended)
+
+  -- so it was, or nothing was shown
+  abbrev pub ShowsOpened : Names → Judged → ClubStore → ClubStore → Type 0
+  ShowsOpened names judged v w = IsNothingShown output ended ⊎ ShowsJoined names judged v w
 
   -- a session was opened on two disks, and pages were shown over it; or nothing was done
   abbrev pub ShowsTwo : Names → Type 0
   ShowsTwo names = IsNothingShown output ended
       ⊎ ((d : ClubDisk) × (e : ClubDisk) × (judged : Judged) × (v : ClubStore) × (w : ClubStore)
-      × HasJoined file_disk d e judged v w × ShowsJoined names judged.disk_first judged.was_level v w)
+      × HasJoined file_disk d e judged v w × ShowsJoined names judged v w)
 
   -- it was done with the names of a list, or what is wrong with the list is the fault
   abbrev pub ShowsTwoFound : Result (List PairNames) EveningFault → Type 0

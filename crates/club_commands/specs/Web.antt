@@ -72,8 +72,8 @@ abbrev pub IsNoneShown : (RunFault → Type 0) → ClubStore → ClubStore → S
 IsNoneShown Why start store output ended = IsErrAnd ended Why × IsUntouched output × (store ≡ start)
 
 -- the system gave no random bytes
-abbrev pub IsWithoutRandom : RunFault → Type 0
-IsWithoutRandom fault = fault ≡ System Random
+abbrev pub HasNoRandom : RunFault → Type 0
+HasNoRandom fault = fault ≡ System Random
 
 -- it is said where the pages are, and they were shown at a site; or a write of that failed, and the store is as it was; or none
 -- are shown, for such a cause

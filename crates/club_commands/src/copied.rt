@@ -1,10 +1,10 @@
 //! The command `web` with a second disk in a file: both files are locked for as long as pages are shown, which no clause can say
 //! and tests show.
-ghost use Rattle.std.specs.Prelude.{◌≡◌, ◌⊎◌, None};
+ghost use Rattle.std.specs.Prelude.{◌≡◌, None};
 ghost use Rattle.line_text.specs.Streams.{stream};
 ghost use Rattle.evening_commands.specs.NamesView.{list_seen};
 ghost use Rattle.session_pair.specs.Joining.{IsOne};
-ghost use Rattle.club_commands.specs.PairWeb.{IsNothingShown, ShowsJoined, ShowsTwo, ShowsTwoFound, ShowsTwoListed};
+ghost use Rattle.club_commands.specs.PairWeb.{ShowsOpened, ShowsTwo, ShowsTwoFound, ShowsTwoListed};
 
 use crate::fault::RunFault;
 use crate::listed::refuse_list;
@@ -80,9 +80,8 @@ fn show_opened<N: Host, W: Write>(
     output: &mut W,
 ) -> Result<(), RunFault>
     requires works { IsOne joined.first joined.second }
-    ensures { IsNothingShown (stream W.contents output.old output.new) result
-        ⊎ ShowsJoined shown.now.texts shown.now.host (stream W.contents output.old output.new) result shown.now.names
-        joined.judged.disk_first joined.judged.was_level joined.first joined.second }
+    ensures { ShowsOpened shown.now.texts shown.now.host (stream W.contents output.old output.new) result shown.now.names
+        joined.judged joined.first joined.second }
 {
     let Ok(cache) = Cache::new(alloc, CACHED_ENDINGS) else {
         return Err(RunFault::Store(StoreFault::NoMemory));

@@ -117,7 +117,7 @@ fn show_said<N: Host, W: Write, K: Seconds>(
     output: &mut W,
 ) -> Result<(), RunFault>
     requires line { line.now ≡ level_line judged.was_level ++ listening_line (string_bytes pages.old.names.host) }
-    ensures { ShowsPairAt judged.was_level (site_of pages.old.texts pages.old.names pages.old.people.items) judged.disk_first
+    ensures { ShowsPairAt judged (site_of pages.old.texts pages.old.names pages.old.people.items)
         pages.old.server pages.new.server (stream W.contents output.old output.new) result }
 {
     match write_output(output, line) {
@@ -138,7 +138,7 @@ fn show_pair_at<N: Host, W: Write, K: Seconds>(
     output: &mut W,
 ) -> Result<(), RunFault>
     requires line { line.now ≡ level_line judged.was_level ++ listening_line (string_bytes pages.old.names.host) }
-    ensures { ShowsPairAt judged.was_level (site_of pages.old.texts pages.old.names pages.old.people.items) judged.disk_first
+    ensures { ShowsPairAt judged (site_of pages.old.texts pages.old.names pages.old.people.items)
         pages.old.server pages.new.server (stream W.contents output.old output.new) result }
 {
     match listen_at(rt, host) {
@@ -187,7 +187,7 @@ fn show_joined_with<N: Host, W: Write>(
     requires works { IsOne joined.first joined.second }
     requires few { IfSome shown.now.names (λ names. length names.now ≤ 24) }
     ensures { ShowsJoinedWith shown.now.texts shown.now.host (stream W.contents output.old output.new) result shown.now.names
-        joined.judged.disk_first joined.judged.was_level joined.first joined.second }
+        joined.judged joined.first joined.second }
 {
     let Joined {
         first,
@@ -205,8 +205,7 @@ fn show_joined_with<N: Host, W: Write>(
     };
     let server = PairServer::new(first, second, disks, rt.errors());
     let (host, texts, minutes) = (&shown.host, shown.texts, shown.minutes);
-    let open = host.open_boards;
-    let clock = ServerClock::new(rt);
+    let (open, clock) = (host.open_boards, ServerClock::new(rt));
     let mut pages = pages_over(
         alloc, names, texts, people, server, cache, desk, open, clock,
     );
@@ -228,7 +227,7 @@ pub fn show_joined<N: Host, W: Write>(
 ) -> Result<(), RunFault>
     requires works { IsOne joined.first joined.second }
     ensures { ShowsJoined shown.now.texts shown.now.host (stream W.contents output.old output.new) result shown.now.names
-        joined.judged.disk_first joined.judged.was_level joined.first joined.second }
+        joined.judged joined.first joined.second }
 {
     if has_pairs(shown.names, joined.first.state().config()) {
         return show_joined_with(rt, alloc, shown, joined, disks, cache, desk, output);

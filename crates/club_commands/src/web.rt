@@ -6,7 +6,7 @@ ghost use Rattle.club_commands.specs.declared.fault.RunFault.TheVariants.{System
 ghost use Rattle.club_commands.specs.declared.fault.SystemFault.TheVariants.{Random};
 ghost use Rattle.club_disk.specs.Stored.{Leads};
 ghost use Rattle.evening_commands.specs.People.{people_text};
-ghost use Rattle.club_commands.specs.Web.{IsWithoutRandom, listening_line, ended_by, ShowsPages, IsNoneShown, ShowsAt, IsUnshown, ShowsWith, ShowsOther, ShowsListed};
+ghost use Rattle.club_commands.specs.Web.{HasNoRandom, listening_line, ended_by, ShowsPages, IsNoneShown, ShowsAt, IsUnshown, ShowsWith, ShowsOther, ShowsListed};
 
 use crate::fault::{RunFault, SystemFault};
 use crate::listed::refuse_list;
@@ -80,7 +80,7 @@ fn show_heard<N: Host, W: Write, K: Seconds>(
 ) -> Result<(), RunFault>
     requires works { pages.old.server.failed ≡ false }
     requires line { line.now ≡ listening_line (string_bytes pages.old.names.host) }
-    ensures heard { OnOk found (ShowsAt IsWithoutRandom (site_of pages.old.texts pages.old.names pages.old.people.items)
+    ensures heard { OnOk found (ShowsAt HasNoRandom (site_of pages.old.texts pages.old.names pages.old.people.items)
         pages.old.server pages.new.server (stream W.contents output.old output.new) result) }
     ensures unheard { IfErr found (λ refused. IsNoneShown (λ fault. fault ≡ refused)
         pages.old.server pages.new.server (stream W.contents output.old output.new) result) }

@@ -1,5 +1,5 @@
 -- Lines that came in one request, answered over two stores of one session.
-use Rattle.std.specs.Prelude.{◌≡◌, ◌⊎◌, ◌&&◌, ℕ, Bool, true, false, List, [], Option, None, Some, string_bytes}
+use Rattle.std.specs.Prelude.{◌≡◌, ◌⊎◌, ◌&&◌, ℕ, Bool, true, false, List, [], Option, None, Some, string_bytes, option_map}
 use Rattle.sector_disk.specs.Disk.{Disk}
 use Rattle.session_store.specs.Pair.{IsToldPair, OneWorks}
 use Rattle.session_store.specs.Store.{Continues}
@@ -16,6 +16,7 @@ use Rattle.desk_replies.specs.declared.desk.Desk.{Desk}
 use Rattle.pair_pages.specs.declared.disk_names.DiskNames.{DiskNames}
 use Rattle.table_server.specs.declared.line_set.LineSet.{LineSet}
 use Rattle.table_pages.specs.Answered.{AnswersLines, CountsKeys, is_settled}
+use Rattle.table_pages.specs.declared.line_server.Replies.{Replies}
 
 -- two stores of a session, and whether nothing more may be told of it
 pub record PairValue (D E : Type 0) : Type 0 where
@@ -26,6 +27,10 @@ pub record PairValue (D E : Type 0) : Type 0 where
 -- these
 abbrev pub pair_of : {D E : Type 0} → StoreValue D SessionValue Action → StoreValue E SessionValue Action → Bool → PairValue D E
 pair_of first second stopped = record { first = first; second = second; stopped = stopped }
+
+-- the text of replies, where there are any
+abbrev pub told_text : Option Replies → Option (List ℕ)
+told_text replies = option_map (λ (told : Replies). told.text.items) replies
 
 -- the session that is shown: that of a side that works
 abbrev pub session_of : {D E : Type 0} → PairValue D E → SessionValue

@@ -1,7 +1,7 @@
 //! A body of lines, served over the two stores of a pair.
-ghost use Rattle.std.specs.Prelude.{◌≡◌, ◌<◌, false, length, option_map, IfSome};
+ghost use Rattle.std.specs.Prelude.{◌≡◌, ◌<◌, false, length, IfSome};
 ghost use Rattle.session_pair.specs.Telling.{HasConfirmed};
-ghost use Rattle.pair_pages.specs.Pair.{pair_of, IsServedTwice, CountsInPair};
+ghost use Rattle.pair_pages.specs.Pair.{pair_of, told_text, IsServedTwice, CountsInPair};
 
 use bridge_endings::Cache;
 use bridge_session::Session;
@@ -34,11 +34,10 @@ pub fn serve_twice<A: SectorDisk + Drop, B: SectorDisk + Drop>(
     requires first { HasConfirmed first.old }
     requires second { HasConfirmed second.old }
     requires short { length body.now < 65536 }
-    ensures served { IsServedTwice A.disk B.disk set (pair_of first.old second.old false) body.now
-        (option_map (λ replies. replies.text.items) result.replies) (pair_of first.new second.new result.stopped) }
+    ensures served { IsServedTwice A.disk B.disk set (pair_of first.old second.old false) body.now (told_text result.replies)
+        (pair_of first.new second.new result.stopped) }
     ensures counted { IfSome result.replies (λ replies. CountsInPair set (pair_of first.old second.old false) body.now replies.wrong_keys) }
-    ensures first { HasConfirmed first.new }
-    ensures second { HasConfirmed second.new }
+    ensures confirmed { HasConfirmed first.new × HasConfirmed second.new }
 {
     let ours = answer_lines(first, set, alloc, cache, body);
     let theirs = answer_lines(second, set, alloc, cache, body);

@@ -98,7 +98,7 @@ impl<A: SectorDisk + Drop, B: SectorDisk + Drop> PairServer<Store<A, Session>, S
         requires ready { are_settled (pair_of self.old.first self.old.second self.old.stopped) ≡ true }
         requires short { length body.now < 65536 }
         ensures answers { AnswersPair A.disk B.disk set (pair_of self.old.first self.old.second self.old.stopped) body.now
-            (option_map (λ replies. replies.text.items) result) (pair_of self.new.first self.new.second self.new.stopped) }
+            (told_text result) (pair_of self.new.first self.new.second self.new.stopped) }
         ensures counts { IfSome result (λ replies.
             CountsInPair set (pair_of self.old.first self.old.second self.old.stopped) body.now replies.wrong_keys) }
         ensures ready { are_settled (pair_of self.new.first self.new.second self.new.stopped) ≡ true }

@@ -133,8 +133,8 @@ pub fn read_tables(
     requires boards { map (λ table. map board_kept table.items) tables.old ≡ map (row_boards boards) rows.now }
     requires deals { All AreHandsOrNone deals.now }
     ensures written { OnSome result (flat_map (row_parts format boards) (map plains_of tables.new) ≡ map items_of parts.now) }
-    ensures rows { OnSome result (AreRows format scoring deals.now now boards rows.now (map plains_of tables.new)) }
-    ensures tied { OnSome result (All (λ table. All (IsTiedIn deals.now) table.items) tables.new) }
+    ensures rows { OnSome result (AreRows format scoring deals.now now boards rows.now (map plains_of tables.new)
+        × All (λ table. All (IsTiedIn deals.now) table.items) tables.new) }
     ensures other { IfNone result (AreOfNoRows format scoring deals.now now boards rows.now (map items_of parts.now)) }
 {
     let mut rest = parts;

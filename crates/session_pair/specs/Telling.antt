@@ -30,3 +30,12 @@ module _ {D E S A R : Type 0} (kept : Keeping S A R) (first : Disk D) (second : 
     pub second_served : Continues kept second w accepted_second w'
     pub first_confirmed : HasConfirmed v'
     pub second_confirmed : HasConfirmed w'
+
+  -- if so it is answered of stores that were served, the state that is shown of them then may be told
+  abbrev pub MayTell : StoreValue D S A → StoreValue E S A → Bool → StoreValue D S A → StoreValue E S A → Type 0
+  MayTell v' w' may last other = (v : StoreValue D S A) (w : StoreValue E S A) → WereServed v w v' w' → may ≡ true
+      → IsToldPair kept first second last other (shown_of last other)
+
+-- nothing stays pending in a store that works
+abbrev pub StaysConfirmed : {D S A : Type 0} → StoreValue D S A → StoreValue D S A → Type 0
+StaysConfirmed v last = HasConfirmed v → HasConfirmed last

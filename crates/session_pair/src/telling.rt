@@ -1,9 +1,8 @@
 //! When what a pair of stores served may be told.
 ghost use Rattle.std.specs.Prelude.{◌≡◌, [], true, false};
-ghost use Rattle.session_store.specs.Pair.{IsToldPair, OneWorks};
+ghost use Rattle.session_store.specs.Pair.{OneWorks};
 ghost use Rattle.session_store.specs.Store.{Continues};
-ghost use Rattle.session_store.specs.Value.{StoreValue};
-ghost use Rattle.session_pair.specs.Telling.{HasConfirmed, WereServed, shown_of};
+ghost use Rattle.session_pair.specs.Telling.{MayTell, StaysConfirmed, shown_of};
 
 use sector_disk::SectorDisk;
 use session_store::{Kept, Store, is_same_state, pair_laws, settle_pair};
@@ -46,16 +45,12 @@ pub fn settle_served<A: SectorDisk + Drop, B: SectorDisk + Drop, K: Kept>(
     first: &mut Store<A, K>,
     second: &mut Store<B, K>,
 ) -> bool
-    ensures told { (v : StoreValue A K K.Action) (w : StoreValue B K K.Action)
-        → WereServed K.kept A.disk B.disk v w first.old second.old → result ≡ true
-        → IsToldPair K.kept A.disk B.disk first.new second.new (shown_of first.new second.new) }
+    ensures told { MayTell K.kept A.disk B.disk first.old second.old result first.new second.new }
     ensures works { result ≡ true → OneWorks K.kept A.disk B.disk first.new second.new }
     ensures state { result ≡ true → shown_of first.new second.new ≡ shown_of first.old second.old }
     ensures lost { result ≡ true → first.new.failed ≡ first.old.failed }
-    ensures first { Continues K.kept A.disk first.old [] first.new }
-    ensures second { Continues K.kept B.disk second.old [] second.new }
-    ensures first_confirmed { HasConfirmed first.old → HasConfirmed first.new }
-    ensures second_confirmed { HasConfirmed second.old → HasConfirmed second.new }
+    ensures settled { Continues K.kept A.disk first.old [] first.new × Continues K.kept B.disk second.old [] second.new }
+    ensures confirmed { StaysConfirmed first.old first.new × StaysConfirmed second.old second.new }
 {
     pair_laws::<A, B, K>();
     let is_one = is_one_state(first, second);

@@ -13,7 +13,7 @@ pub returns : goal.returns
 returns g c =
     let pages = c.pages_over-pages.result in
     let shown = c.args.shown.now in
-    joined_shown shown.texts shown.host shown.names c.args.joined.judged.disk_first c.args.joined.judged.was_level c.args.joined.first c.args.joined.second
+    joined_shown shown.texts shown.host shown.names c.args.joined.judged c.args.joined.first c.args.joined.second
     (site_of pages.texts pages.names pages.people.items) c.new-server.result pages.server c.show_pair_at.new.pages.server
     (stream g.W.Write.contents c.args.output.now c.show_pair_at.new.output) c.show_pair_at.result
     (made_site shown.host pages.texts shown.texts pages.names c.in-Ok.names _ _ c.pages_over-pages.ensures.names c.pages_over-pages.ensures.texts

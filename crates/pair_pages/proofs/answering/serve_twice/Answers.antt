@@ -10,11 +10,11 @@ returns-then-has_failed-clause-served g c = record {
   first_text = option_map (λ (replies : Replies). replies.text.items) c.answer_lines-ours.result;
   first_served = c.answer_lines-ours.new.store;
   first_answers = (c.answer_lines-ours.ensures.answered, c.answer_lines-ours.ensures.faults);
-  first_settled = c.settle_served.ensures.first;
+  first_settled = c.settle_served.ensures.settled.0;
   second_text = option_map (λ (replies : Replies). replies.text.items) c.answer_lines-theirs.result;
   second_served = c.answer_lines-theirs.new.store;
   second_answers = (c.answer_lines-theirs.ensures.answered, c.answer_lines-theirs.ensures.faults);
-  second_settled = c.settle_served.ensures.second;
+  second_settled = c.settle_served.ensures.settled.1;
   may_tell = λ works. c.settle_served.ensures.works c.if-settle_served.true;
   told = λ works s told.
       c.settle_served.ensures.told c.args.first.now c.args.second.now
@@ -33,22 +33,22 @@ returns-then-has_failed-clause-counted g c =
     (λ (replies : Replies). CountsInPair c.args.set (pair_of c.args.first.now c.args.second.now false) c.args.body.now replies.wrong_keys)
     c.answer_lines-theirs.result (λ replies counts. inr counts) c.answer_lines-theirs.ensures.counted
 
-pub returns-then-has_failed-clause-first : goal.returns-then-has_failed-clause-first
-returns-then-has_failed-clause-first g c = c.settle_served.ensures.first_confirmed c.answer_lines-ours.ensures.settled
-
-pub returns-then-has_failed-clause-second : goal.returns-then-has_failed-clause-second
-returns-then-has_failed-clause-second g c = c.settle_served.ensures.second_confirmed c.answer_lines-theirs.ensures.settled
+pub returns-then-has_failed-clause-confirmed : goal.returns-then-has_failed-clause-confirmed
+returns-then-has_failed-clause-confirmed g c = (
+  c.settle_served.ensures.confirmed.0 c.answer_lines-ours.ensures.settled,
+  c.settle_served.ensures.confirmed.1 c.answer_lines-theirs.ensures.settled,
+)
 
 pub returns-then-settle_served-clause-served : goal.returns-then-settle_served-clause-served
 returns-then-settle_served-clause-served g c = record {
   first_text = option_map (λ (replies : Replies). replies.text.items) c.answer_lines-ours.result;
   first_served = c.answer_lines-ours.new.store;
   first_answers = (c.answer_lines-ours.ensures.answered, c.answer_lines-ours.ensures.faults);
-  first_settled = c.settle_served.ensures.first;
+  first_settled = c.settle_served.ensures.settled.0;
   second_text = option_map (λ (replies : Replies). replies.text.items) c.answer_lines-theirs.result;
   second_served = c.answer_lines-theirs.new.store;
   second_answers = (c.answer_lines-theirs.ensures.answered, c.answer_lines-theirs.ensures.faults);
-  second_settled = c.settle_served.ensures.second;
+  second_settled = c.settle_served.ensures.settled.1;
   may_tell = λ works. c.settle_served.ensures.works c.if-settle_served.true;
   told = λ works s told.
       c.settle_served.ensures.told c.args.first.now c.args.second.now
@@ -67,30 +67,30 @@ returns-then-settle_served-clause-counted g c =
     (λ (replies : Replies). CountsInPair c.args.set (pair_of c.args.first.now c.args.second.now false) c.args.body.now replies.wrong_keys)
     c.answer_lines-ours.result (λ replies counts. inl counts) c.answer_lines-ours.ensures.counted
 
-pub returns-then-settle_served-clause-first : goal.returns-then-settle_served-clause-first
-returns-then-settle_served-clause-first g c = c.settle_served.ensures.first_confirmed c.answer_lines-ours.ensures.settled
-
-pub returns-then-settle_served-clause-second : goal.returns-then-settle_served-clause-second
-returns-then-settle_served-clause-second g c = c.settle_served.ensures.second_confirmed c.answer_lines-theirs.ensures.settled
+pub returns-then-settle_served-clause-confirmed : goal.returns-then-settle_served-clause-confirmed
+returns-then-settle_served-clause-confirmed g c = (
+  c.settle_served.ensures.confirmed.0 c.answer_lines-ours.ensures.settled,
+  c.settle_served.ensures.confirmed.1 c.answer_lines-theirs.ensures.settled,
+)
 
 pub returns-clause-served : goal.returns-clause-served
 returns-clause-served g c = record {
   first_text = option_map (λ (replies : Replies). replies.text.items) c.answer_lines-ours.result;
   first_served = c.answer_lines-ours.new.store;
   first_answers = (c.answer_lines-ours.ensures.answered, c.answer_lines-ours.ensures.faults);
-  first_settled = c.settle_served.ensures.first;
+  first_settled = c.settle_served.ensures.settled.0;
   second_text = option_map (λ (replies : Replies). replies.text.items) c.answer_lines-theirs.result;
   second_served = c.answer_lines-theirs.new.store;
   second_answers = (c.answer_lines-theirs.ensures.answered, c.answer_lines-theirs.ensures.faults);
-  second_settled = c.settle_served.ensures.second;
+  second_settled = c.settle_served.ensures.settled.1;
   may_tell = λ works. cc;
   told = λ works. cc;
   text_is = λ works. cc;
   untold = λ stopped. refl;
 }
 
-pub returns-clause-first : goal.returns-clause-first
-returns-clause-first g c = c.settle_served.ensures.first_confirmed c.answer_lines-ours.ensures.settled
-
-pub returns-clause-second : goal.returns-clause-second
-returns-clause-second g c = c.settle_served.ensures.second_confirmed c.answer_lines-theirs.ensures.settled
+pub returns-clause-confirmed : goal.returns-clause-confirmed
+returns-clause-confirmed g c = (
+  c.settle_served.ensures.confirmed.0 c.answer_lines-ours.ensures.settled,
+  c.settle_served.ensures.confirmed.1 c.answer_lines-theirs.ensures.settled,
+)

@@ -88,12 +88,9 @@ returns-clause-rows c =
     let rows = c.args.rows.now in
     let tables = c.loop-index.tables in
     let index = c.loop-index.index in
-    let long = rows_long tables rows c.args.boards c.loop-index.invariant.boards in
-    subst (λ (rs : List Row). AreRows c.args.format c.args.scoring c.args.deals.now c.args.now c.args.boards rs (map plains_of tables)) (take_all index rows (omega arith))
-    (subst (λ (ts : List (Vec Record Global)). AreRows c.args.format c.args.scoring c.args.deals.now c.args.now c.args.boards (take index rows) (map plains_of ts)) (take_all index tables (omega (arith, long)))
-    c.loop-index.invariant.rows)
-
-pub returns-clause-tied : goal.returns-clause-tied
-returns-clause-tied c =
-    let long = rows_long c.loop-index.tables c.args.rows.now c.args.boards c.loop-index.invariant.boards in
-    subst (All (λ (t : Vec Record Global). All (IsTiedIn c.args.deals.now) t.items)) (take_all c.loop-index.index c.loop-index.tables (omega (arith, long))) c.loop-index.invariant.tied
+    let long = rows_long tables rows c.args.boards c.loop-index.invariant.boards in (
+      subst (λ (rs : List Row). AreRows c.args.format c.args.scoring c.args.deals.now c.args.now c.args.boards rs (map plains_of tables)) (take_all index rows (omega arith))
+          (subst (λ (ts : List (Vec Record Global)). AreRows c.args.format c.args.scoring c.args.deals.now c.args.now c.args.boards (take index rows) (map plains_of ts)) (take_all index tables (omega (arith, long)))
+          c.loop-index.invariant.rows),
+      subst (All (λ (t : Vec Record Global). All (IsTiedIn c.args.deals.now) t.items)) (take_all index tables (omega (arith, long))) c.loop-index.invariant.tied,
+    )

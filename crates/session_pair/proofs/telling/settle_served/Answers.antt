@@ -24,18 +24,20 @@ returns-in-Ok-clause-lost g c = λ is.
     (stays g.K.Kept.kept g.A.SectorDisk.disk g.B.SectorDisk.disk c.args.first.now c.settle_pair.new.first c.args.second.now
     c.settle_pair.new.second _ c.settle_pair.ensures.first c.settle_pair.ensures.second c.in-Ok.ensures.settled c.in-Ok.ensures.standing).0
 
-pub returns-in-Ok-clause-first_confirmed : goal.returns-in-Ok-clause-first_confirmed
-returns-in-Ok-clause-first_confirmed g c =
-    confirmed-still g.K.Kept.kept g.A.SectorDisk.disk c.args.first.now c.settle_pair.new.first c.settle_pair.ensures.first
+pub returns-in-Ok-clause-settled : goal.returns-in-Ok-clause-settled
+returns-in-Ok-clause-settled g c = (c.settle_pair.ensures.first, c.settle_pair.ensures.second)
 
-pub returns-in-Ok-clause-second_confirmed : goal.returns-in-Ok-clause-second_confirmed
-returns-in-Ok-clause-second_confirmed g c =
-    confirmed-still g.K.Kept.kept g.B.SectorDisk.disk c.args.second.now c.settle_pair.new.second c.settle_pair.ensures.second
+pub returns-in-Ok-clause-confirmed : goal.returns-in-Ok-clause-confirmed
+returns-in-Ok-clause-confirmed g c = (
+  confirmed-still g.K.Kept.kept g.A.SectorDisk.disk c.args.first.now c.settle_pair.new.first c.settle_pair.ensures.first,
+  confirmed-still g.K.Kept.kept g.B.SectorDisk.disk c.args.second.now c.settle_pair.new.second c.settle_pair.ensures.second,
+)
 
-pub returns-in-Err-clause-first_confirmed : goal.returns-in-Err-clause-first_confirmed
-returns-in-Err-clause-first_confirmed g c =
-    confirmed-still g.K.Kept.kept g.A.SectorDisk.disk c.args.first.now c.settle_pair.new.first c.settle_pair.ensures.first
+pub returns-in-Err-clause-settled : goal.returns-in-Err-clause-settled
+returns-in-Err-clause-settled g c = (c.settle_pair.ensures.first, c.settle_pair.ensures.second)
 
-pub returns-in-Err-clause-second_confirmed : goal.returns-in-Err-clause-second_confirmed
-returns-in-Err-clause-second_confirmed g c =
-    confirmed-still g.K.Kept.kept g.B.SectorDisk.disk c.args.second.now c.settle_pair.new.second c.settle_pair.ensures.second
+pub returns-in-Err-clause-confirmed : goal.returns-in-Err-clause-confirmed
+returns-in-Err-clause-confirmed g c = (
+  confirmed-still g.K.Kept.kept g.A.SectorDisk.disk c.args.first.now c.settle_pair.new.first c.settle_pair.ensures.first,
+  confirmed-still g.K.Kept.kept g.B.SectorDisk.disk c.args.second.now c.settle_pair.new.second c.settle_pair.ensures.second,
+)

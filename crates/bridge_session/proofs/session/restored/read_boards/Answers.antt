@@ -107,8 +107,8 @@ made c =
           (subst (λ n. AreRows format config.scoring deals round n c.rows.result.now (map plains_of tables)) of_set
           (subst (λ ds. AreRows format config.scoring ds round c.fields-fields.result.now.boards c.rows.result.now (map plains_of tables)) listed
           (subst (λ (k : Scoring). AreRows format k c.as_slice.result.now round c.fields-fields.result.now.boards c.rows.result.now (map plains_of tables)) scored
-          c.in_ok-read_tables.ensures.rows)));
-      tied = subst (λ ds. All (λ (t : Vec Record Global). All (IsTiedIn ds) t.items) tables) listed c.in_ok-read_tables.ensures.tied;
+          c.in_ok-read_tables.ensures.rows.0)));
+      tied = subst (λ ds. All (λ (t : Vec Record Global). All (IsTiedIn ds) t.items) tables) listed c.in_ok-read_tables.ensures.rows.1;
     }
 
 -- what is seen of it
