@@ -91,7 +91,7 @@ def judge(what, folder, port, confirmed, sent):
     how = "on both"
     web = Web(folder, port)
     if web.fault is not None:
-        assert web.fault == "copy: different plays", f"{what}: {web.fault}"
+        assert web.fault.startswith("copy: different plays"), f"{what}: {web.fault}"
         greater = "a" if epoch(os.path.join(folder, "a")) > epoch(os.path.join(folder, "b")) else "b"
         how = "on the greater alone"
         web = Web(folder, port, files=(greater,))

@@ -25,7 +25,7 @@ use Rattle.session_rules.specs.Deed.{with_deed}
 use Rattle.session_rules.specs.DirectorStep.{deal_answer, with_ruling, ruled}
 use Rattle.session_rules.specs.PlayerStep.{acted_among, acted_at}
 use Rattle.session_rules.specs.Record.{PlainRecord}
-use Rattle.session_rules.specs.State.{SessionValue, Deals, changed_at, current_index, deal_on, director_answer, is_closed, seating_of}
+use Rattle.session_rules.specs.State.{SessionValue, Deals, row_at, changed_at, current_index, deal_on, director_answer, is_closed, seating_of}
 use Rattle.session_rules.specs.Step.{act_answer, step_answer, changed_by, changed}
 use Rattle.session_rules.proofs.Lists.{not_refused}
 use Rattle.session_rules.proofs.ValidRuling.{allowed_ok}
@@ -33,7 +33,7 @@ use Rattle.bridge_config.specs.ConfigValue.{ConfigValue}
 use Rattle.bridge_table.specs.declared.record.Record.{Record}
 use Rattle.bridge_table.specs.Kept.{plain_of}
 use Rattle.bridge_session.specs.KeptSession.{state_of}
-use Rattle.bridge_session.specs.HasAll.{BeginsWith, HasPlay, HasDeal, HasAllOf, TakesNothingBack}
+use Rattle.bridge_session.specs.HasAll.{BeginsWith, HasPlay, HasDeal, HasAllOf, HasRowOf, TakesNothingBack}
 
 -- a list that is made longer
 begins_more : {A : Type 0} (xs start more : List A) → BeginsWith xs start → BeginsWith (xs ++ more) start
@@ -192,6 +192,14 @@ module _ {X : Type 0} (items : X → List Record) (ours theirs : ConfigValue) (r
   pub all_decided : (r : Bool) → other_round ≤ round → AllZip HasDeal deals other_deals → Decides r Plays → Decides r (HasAllOf ours_of theirs_of)
   all_decided r later dealt decides =
       Decides-like r (λ plays. record { round = later; deals = dealt; plays = plays_seen plays }) plays_of decides
+
+  -- and one row decides for itself
+  pub row_decided : (r : Bool) (index : ℕ) (own other : List PlainRecord) → own ≡ row_at (map (λ x. map plain_of (items x)) tables) index
+      → other ≡ row_at (map (λ x. map plain_of (items x)) other_tables) index → Decides r (AllZip HasPlay own other)
+      → Decides r (HasRowOf ours_of theirs_of index)
+  row_decided r index own other is is' decides =
+      subst (λ ys. Decides r (AllZip HasPlay (row_at ours_of.records index) ys)) (is' ∙ ap (λ rows. row_at rows index) (tables_seen items other_tables))
+      (subst (λ xs. Decides r (AllZip HasPlay xs other)) (is ∙ ap (λ rows. row_at rows index) (tables_seen items tables)) decides)
 
 -- ---- what a loop over two lists has come to
 

@@ -6,7 +6,7 @@ use Rattle.session_rules.specs.declared.act.Act.{Act}
 use Rattle.session_rules.specs.declared.act.Act.TheVariants as act
 use Rattle.session_rules.specs.Act.{act_of}
 use Rattle.session_rules.specs.Record.{PlainRecord}
-use Rattle.session_rules.specs.State.{SessionValue}
+use Rattle.session_rules.specs.State.{SessionValue, row_at}
 
 -- a list begins with another
 pub record BeginsWith {A : Type 0} (xs start : List A) : Type 0 where
@@ -29,6 +29,10 @@ pub record HasAllOf (s t : SessionValue) : Type 0 where
   pub round : t.round ≤ s.round
   pub deals : AllZip HasDeal s.deals t.deals
   pub plays : AllZip (AllZip HasPlay) s.records t.records
+
+-- of the plays of a row nothing of another session is missing
+abbrev pub HasRowOf : SessionValue → SessionValue → ℕ → Type 0
+HasRowOf s t index = AllZip HasPlay (row_at s.records index) (row_at t.records index)
 
 -- an act that takes nothing back
 abbrev pub TakesNothingBack : Act → Type 0

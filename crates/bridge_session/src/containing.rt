@@ -4,7 +4,7 @@ ghost use Rattle.std.specs.Bool.{Decides};
 ghost use Rattle.std.specs.List.{AllZip};
 ghost use Rattle.session_rules.specs.declared.action.Action.{Action as ActionType};
 ghost use Rattle.session_rules.specs.Act.{act_of};
-ghost use Rattle.session_rules.specs.State.{SessionValue};
+ghost use Rattle.session_rules.specs.State.{SessionValue, row_at};
 ghost use Rattle.session_rules.specs.Step.{step_answer, changed};
 ghost use Rattle.bridge_table.specs.Kept.{plain_of};
 ghost use Rattle.bridge_session.specs.HasAll.{HasAllOf, HasDeal, HasPlay, TakesNothingBack};
@@ -42,7 +42,7 @@ fn has_play(ours: &Record, theirs: &Record) -> bool
 }
 
 /// Whether the plays of a table have each all that the other's have, place by place.
-fn have_plays(ours: &[Record], theirs: &[Record]) -> bool
+pub fn have_plays(ours: &[Record], theirs: &[Record]) -> bool
     ensures { Decides result (AllZip HasPlay (map plain_of ours.now) (map plain_of theirs.now)) }
 {
     let mut rest = theirs;
@@ -56,6 +56,16 @@ fn have_plays(ours: &[Record], theirs: &[Record]) -> bool
         rest = after;
     }
     rest.is_empty()
+}
+
+/// The records of the row of that index; none where there is no such row.
+pub fn records_at(tables: &[Vec<Record>], index: usize) -> &[Record]
+    ensures { map plain_of result.now ≡ row_at (map (λ table. map plain_of table.items) tables.now) index }
+{
+    match tables.get(index) {
+        Some(table) => table.as_slice(),
+        None => &[],
+    }
 }
 
 /// The same of all tables.

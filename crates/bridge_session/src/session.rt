@@ -11,9 +11,9 @@ ghost use Rattle.session_rules.specs.Views.{IsViewTo};
 ghost use Rattle.bridge_ranking.specs.Ranking.{ranking_answer, IsRankingTo};
 ghost use Rattle.session_rules.specs.StateRange.{IsSession};
 ghost use Rattle.bridge_table.specs.Kept.{plain_of, IsTiedIn};
-ghost use Rattle.bridge_session.specs.HasAll.{HasAllOf};
+ghost use Rattle.bridge_session.specs.HasAll.{HasAllOf, HasRowOf};
 
-use crate::containing::{have_deals, have_tables};
+use crate::containing::{have_deals, have_plays, have_tables, records_at};
 use crate::entry::Entry;
 use crate::opening::room_of;
 use arrayvec::ArrayVec;
@@ -124,6 +124,15 @@ impl Session {
             return false;
         }
         have_tables(self.tables.as_slice(), other.tables.as_slice())
+    }
+
+    /// Whether nothing that was called or played there in the plays of the row of that index is missing here.
+    pub fn has_row_of(&self, other: &Session, index: usize) -> bool
+        ensures { Decides result (HasRowOf self.now other.now index) }
+    {
+        let ours = records_at(self.tables.as_slice(), index);
+        let theirs = records_at(other.tables.as_slice(), index);
+        have_plays(ours, theirs)
     }
 
     /// The record of a play, if there is such a play at a live row.

@@ -1,9 +1,10 @@
 -- How a command ends: what stands on its output then, and the line on standard error and the exit status that a fault has.
-use Rattle.std.specs.Prelude.{◌≡◌, ◌⊎◌, ◌++◌, ℕ, true, false, List, codes, Result, Err, IfErr, IsErrAnd}
+use Rattle.std.specs.Prelude.{◌≡◌, ◌⊎◌, ◌++◌, ℕ, true, false, List, codes, Option, Some, None, Result, Err, IfErr, IsErrAnd}
 use Rattle.club_commands.specs.Basis.{Stream, Takes, TakesPrefix, Written, IsUntouched, Disk, Rose, StoreOn, decimal, StoreFault, TooSmall, DiskFault, NotFormatted, Damaged, EpochsSpent, NoMemory, ServeFault, Read, Write, RunFault, StreamFault, System, Config, Store}
 use Rattle.club_commands.specs.declared.fault.RunFault.TheVariants.{Evening, Makeable, Joining, Lost}
 use Rattle.club_commands.specs.declared.fault.LostDisk.{LostDisk}
 use Rattle.club_commands.specs.declared.fault.LostDisk.TheVariants as lost
+use Rattle.bridge_movement.specs.declared.row.Row.{Row}
 use Rattle.session_pair.specs.declared.joining.JoinFault.{JoinFault}
 use Rattle.session_pair.specs.declared.joining.JoinFault.TheVariants as join
 use Rattle.evening_commands.specs.Fault.{config_line, evening_line}
@@ -56,12 +57,17 @@ copy_line (Damaged sector) = (codes "copy: damaged sector " ++ decimal sector) +
 copy_line EpochsSpent = codes "copy: epochs spent\n"
 copy_line NoMemory = codes "copy: no memory\n"
 
+-- the line where the session of the greater epoch lacks something of the other, and of whose plays
+abbrev pub other_plays_line : Option Row → List ℕ
+other_plays_line None = codes "copy: different plays\n"
+other_plays_line (Some row) = (((codes "copy: different plays, round " ++ decimal row.round) ++ codes " table ") ++ decimal row.table) ++ codes "\n"
+
 -- the line where a session was not opened on two disks
 abbrev pub join_line : JoinFault → List ℕ
 join_line (join.Disk fault) = store_line fault
 join_line (join.Copy fault) = copy_line fault
 join_line join.OtherSession = codes "copy: another session\n"
-join_line join.OtherPlays = codes "copy: different plays\n"
+join_line (join.OtherPlays row) = other_plays_line row
 
 -- the line where one of two disks was lost
 abbrev pub lost_line : LostDisk → List ℕ

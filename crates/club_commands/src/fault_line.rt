@@ -1,8 +1,9 @@
 //! The line of standard error and the exit status that a fault has.
-ghost use Rattle.std.specs.Prelude.{◌≡◌};
-ghost use Rattle.club_commands.specs.Ended.{stream_line, store_line, copy_line, join_line, lost_line, fault_line, fault_status, store_status, join_status};
+ghost use Rattle.std.specs.Prelude.{◌≡◌, Some};
+ghost use Rattle.club_commands.specs.Ended.{stream_line, store_line, copy_line, other_plays_line, join_line, lost_line, fault_line, fault_status, store_status, join_status};
 
 use crate::fault::{LostDisk, RunFault};
+use bridge_movement::Row;
 use evening_commands::{FaultLine, config_line, evening_line, line_of};
 use itoa::Buffer;
 use makeable_deals::makeable_line;
@@ -41,7 +42,7 @@ fn join_status(fault: JoinFault) -> u8
 {
     match fault {
         JoinFault::Disk(fault) => store_status(fault),
-        JoinFault::Copy(_) | JoinFault::OtherSession | JoinFault::OtherPlays => FAULT,
+        JoinFault::Copy(_) | JoinFault::OtherSession | JoinFault::OtherPlays(_) => FAULT,
     }
 }
 
@@ -79,8 +80,22 @@ fn join_line(fault: JoinFault) -> FaultLine
         JoinFault::Disk(fault) => store_line(fault),
         JoinFault::Copy(fault) => copy_line(fault),
         JoinFault::OtherSession => line_of("copy: another session\n"),
-        JoinFault::OtherPlays => line_of("copy: different plays\n"),
+        JoinFault::OtherPlays(None) => line_of("copy: different plays\n"),
+        JoinFault::OtherPlays(Some(row)) => other_plays_line(row),
     }
+}
+
+/// The line where plays of a table in a round lack something.
+fn other_plays_line(row: Row) -> FaultLine
+    ensures { result.bytes ≡ other_plays_line (Some row) }
+{
+    let mut line = FaultLine::new();
+    line.push_str("copy: different plays, round ");
+    line.push_str(Buffer::new().format(row.round));
+    line.push_str(" table ");
+    line.push_str(Buffer::new().format(row.table));
+    line.push_str("\n");
+    line
 }
 
 /// The line where one of two disks was lost.

@@ -9,7 +9,7 @@ use evening_draft::{NamesFault, NamesRefused};
 use itoa::Buffer;
 
 /// The most bytes of a line.
-pub const FAULT_LINE_BYTES: usize = 40;
+pub const FAULT_LINE_BYTES: usize = 48;
 
 /// The line of a fault.
 pub type FaultLine = ArrayString<FAULT_LINE_BYTES>;

@@ -8,7 +8,7 @@ use arrayvec::ArrayString;
 use line_text::number_text;
 
 /// The most bytes of a line.
-pub const FAULT_LINE_BYTES: usize = 40;
+pub const FAULT_LINE_BYTES: usize = 48;
 
 /// The line of a fault.
 pub type FaultLine = ArrayString<FAULT_LINE_BYTES>;

@@ -1,5 +1,5 @@
 -- A session opened on two disks.
-use Rattle.std.specs.Prelude.{◌≡◌, ◌≢◌, ◌⊎◌, ◌↔◌, ◌<◌, ℕ, Bool, true, false, []}
+use Rattle.std.specs.Prelude.{◌≡◌, ◌≢◌, ◌⊎◌, ◌↔◌, ◌<◌, ℕ, nat_lt, Bool, true, false, if◌then◌else◌, [], length, slice_get, Option, Some, None}
 use Rattle.sector_disk.specs.Disk.{Disk}
 use Rattle.sector_disk.specs.Runs.{Quiet}
 use Rattle.session_store.specs.Looking.{IsSeen}
@@ -10,7 +10,8 @@ use Rattle.session_store.specs.declared.disk_format.DiskFormat.{DiskFormat}
 use Rattle.session_store.specs.declared.fault.StoreFault.TheVariants.{NoMemory}
 use Rattle.session_rules.specs.declared.action.Action.{Action}
 use Rattle.session_rules.specs.State.{SessionValue}
-use Rattle.bridge_session.specs.HasAll.{HasAllOf}
+use Rattle.bridge_movement.specs.declared.row.Row.{Row}
+use Rattle.bridge_session.specs.HasAll.{HasAllOf, HasRowOf}
 use Rattle.bridge_session.specs.SessionKeeping.{session_keeping}
 use Rattle.session_pair.specs.Choosing.{ComesFirst}
 use Rattle.session_pair.specs.declared.joining.Judged.{Judged}
@@ -37,11 +38,20 @@ pub record IsJudged (s : SessionValue) (epoch records : ℕ) (t : SessionValue) 
   pub first : (judged.disk_first ≡ true) ↔ ComesFirst epoch records other_epoch other_records
   pub level : (judged.was_level ≡ true) ↔ (s ≡ t)
 
+-- of the plays of that row something is missing that the other has, or of no row's
+abbrev pub IsLacking : SessionValue → SessionValue → Option Row → Type 0
+IsLacking s t (Some row) = (index : ℕ) × (slice_get s.configuration.movement.rows index ≡ Some row) × ¬ (HasRowOf s t index)
+IsLacking s t None = (index : ℕ) → index < length s.configuration.movement.rows → HasRowOf s t index
+
+-- in the session of the greater epoch
+abbrev pub IsLackingInGreater : SessionValue → ℕ → SessionValue → ℕ → Option Row → Type 0
+IsLackingInGreater s epoch t other_epoch row = if nat_lt other_epoch epoch then IsLacking s t row else IsLacking t s row
+
 -- why they are not joined
 abbrev pub IsUnjudged : SessionValue → ℕ → SessionValue → ℕ → JoinFault → Type 0
 IsUnjudged s epoch t other_epoch OtherSession = s.configuration ≢ t.configuration
-IsUnjudged s epoch t other_epoch OtherPlays =
-    (s.configuration ≡ t.configuration) × ¬ (MayFollow s epoch t other_epoch) × (s ≢ t)
+IsUnjudged s epoch t other_epoch (OtherPlays row) = (s.configuration ≡ t.configuration) × ¬ (MayFollow s epoch t other_epoch) × (s ≢ t)
+    × IsLackingInGreater s epoch t other_epoch row
 IsUnjudged s epoch t other_epoch (NoDisk fault) = fault ≡ NoMemory
 IsUnjudged s epoch t other_epoch (NoCopy fault) = ⊥
 

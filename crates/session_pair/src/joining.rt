@@ -1,12 +1,13 @@
 //! A session opened on two disks.
 ghost use Rattle.std.specs.Prelude.{◌≡◌, ◌↔◌, true, IfOk, IfErr};
 ghost use Rattle.std.specs.Bool.{Decides};
-ghost use Rattle.session_pair.specs.Joining.{IsJudged, IsUnjudged, HasJoined, MayFollow, SeesBoth, IsOne};
+ghost use Rattle.session_pair.specs.Joining.{IsJudged, IsUnjudged, HasJoined, IsLacking, IsLackingInGreater, MayFollow, SeesBoth, IsOne};
 ghost use Rattle.session_pair.specs.Choosing.{ComesFirst};
 ghost use Rattle.session_store.specs.PairOpening.{IsPairOpened};
 ghost use Rattle.bridge_session.specs.SessionKeeping.{session_keeping};
 
 use crate::comes_first;
+use bridge_movement::Row;
 use bridge_session::Session;
 use sector_disk::SectorDisk;
 use session_store::{
@@ -25,8 +26,9 @@ pub enum JoinFault {
     Copy(StoreFault),
     /// The copy holds a session of another configuration.
     OtherSession,
-    /// The disks are of different epochs, and the session of the greater one lacks something of the other.
-    OtherPlays,
+    /// The disks are of different epochs, and the session of the greater one lacks something of the other: of the plays of that
+    /// row, the first of such, or else the round or a deal.
+    OtherPlays(Option<Row>),
 }
 
 /// How two disks of one session stand to each other.
@@ -81,6 +83,30 @@ fn may_follow(disk: &Reading<Session>, copy: &Reading<Session>) -> bool
     }
 }
 
+/// The first row of the movement of whose plays something is missing that the other session has.
+fn first_lacking(ours: &Session, theirs: &Session) -> Option<Row>
+    ensures { IsLacking ours.now theirs.now result }
+{
+    let rows = ours.config().fields().movement.rows();
+    for (index, row) in rows.iter().enumerate() {
+        if !ours.has_row_of(theirs, index) {
+            return Some(*row);
+        }
+    }
+    None
+}
+
+/// The same in the session of the greater epoch.
+fn lacking_in_greater(disk: &Reading<Session>, copy: &Reading<Session>) -> Option<Row>
+    ensures { IsLackingInGreater disk.now.state disk.now.epoch copy.now.state copy.now.epoch result }
+{
+    if copy.epoch < disk.epoch {
+        first_lacking(&disk.state, &copy.state)
+    } else {
+        first_lacking(&copy.state, &disk.state)
+    }
+}
+
 /// How two disks stand to each other, by what was read of them, if they may be joined: they hold the same, or are of one
 /// configuration and the one may follow the other.
 pub fn judge(
@@ -96,6 +122,7 @@ pub fn judge(
         return Ok(judged);
     }
     let may_follow = may_follow(&disk, &copy);
+    let lacking = lacking_in_greater(&disk, &copy);
     match is_one_configuration(alloc, disk.state, copy.state) {
         Err(_) => Err(JoinFault::Disk(StoreFault::NoMemory)),
         Ok(is_one) => {
@@ -105,7 +132,7 @@ pub fn judge(
             if may_follow {
                 Ok(judged)
             } else {
-                Err(JoinFault::OtherPlays)
+                Err(JoinFault::OtherPlays(lacking))
             }
         }
     }
@@ -151,7 +178,7 @@ fn fault_of(disk_first: bool, fault: PairFault) -> JoinFault {
         (PairFault::First(fault), false) => JoinFault::Copy(fault),
         (PairFault::Second(fault), true) => JoinFault::Copy(fault),
         (PairFault::Second(fault), false) => JoinFault::Disk(fault),
-        (PairFault::SecondNewer, _) => JoinFault::OtherPlays,
+        (PairFault::SecondNewer, _) => JoinFault::OtherPlays(None),
     }
 }
 
