@@ -1,5 +1,5 @@
 -- A session opened on two disks.
-use Rattle.std.specs.Prelude.{◌≡◌, ◌≢◌, ◌⊎◌, ◌↔◌, ◌<◌, ℕ, nat_lt, Bool, true, false, if◌then◌else◌, [], length, slice_get, Option, Some, None}
+use Rattle.std.specs.Prelude.{◌≡◌, ◌≢◌, ◌⊎◌, ◌↔◌, ◌<◌, ℕ, nat_lt, Bool, true, false, MatchBool, [], length, slice_get, Option, Some, None}
 use Rattle.sector_disk.specs.Disk.{Disk}
 use Rattle.sector_disk.specs.Runs.{Quiet}
 use Rattle.session_store.specs.Looking.{IsSeen}
@@ -45,7 +45,7 @@ IsLacking s t None = (index : ℕ) → index < length s.configuration.movement.r
 
 -- in the session of the greater epoch
 abbrev pub IsLackingInGreater : SessionValue → ℕ → SessionValue → ℕ → Option Row → Type 0
-IsLackingInGreater s epoch t other_epoch row = if nat_lt other_epoch epoch then IsLacking s t row else IsLacking t s row
+IsLackingInGreater s epoch t other_epoch row = MatchBool (nat_lt other_epoch epoch) (IsLacking s t row) (IsLacking t s row)
 
 -- why they are not joined
 abbrev pub IsUnjudged : SessionValue → ℕ → SessionValue → ℕ → JoinFault → Type 0
