@@ -1,5 +1,5 @@
 //! What answers lines over a session that two disks keep.
-ghost use Rattle.std.specs.Prelude.{◌≡◌, ◌<◌, true, false, length, option_map, IfSome};
+ghost use Rattle.std.specs.Prelude.{◌≡◌, ◌<◌, true, false, length, IfSome};
 ghost use Rattle.session_pair.specs.Telling.{shown_of};
 ghost use Rattle.session_store.specs.Pair.{standing_of};
 ghost use Rattle.page_replies.specs.WrongKey.{is_wrong_key};
@@ -12,7 +12,7 @@ ghost use Rattle.board_replies.specs.Told.{boards_text, opened_by};
 ghost use Rattle.desk_replies.specs.Asked.{has_wrong_key as asks_desk_wrongly};
 ghost use Rattle.desk_replies.specs.Told.{desk_text, desk_after};
 ghost use Rattle.table_pages.specs.Waits.{wait_reply, IsToldStill};
-ghost use Rattle.pair_pages.specs.Pair.{pair_of, are_settled, desk_of, AnswersPair, CountsInPair};
+ghost use Rattle.pair_pages.specs.Pair.{pair_of, told_text, are_settled, desk_of, AnswersPair, CountsInPair};
 
 use crate::answering::serve_twice;
 use crate::disk_names::DiskNames;
