@@ -8,6 +8,8 @@ use Rattle.session_pair.specs.Joining.{IsJudged, IsUnjudged}
 use Rattle.session_pair.specs.declared.joining.Judged.{Judged}
 use Rattle.session_pair.specs.declared.joining.JoinFault.{JoinFault}
 use Rattle.session_pair.specs.declared.joining.JoinFault.TheVariants.{Copy as NoCopy}
+use Rattle.session_rules.specs.declared.action.Action.{Action}
+use Rattle.session_rules.specs.declared.refused.Refused.{Refused}
 use Rattle.session_store.specs.Looking.{IsSeen}
 use Rattle.session_store.specs.declared.looking.Reading.{Reading}
 use Rattle.club_commands.specs.Checked.{with_standing, with_state, Checks}
@@ -16,7 +18,7 @@ use Rattle.club_commands.specs.Works.{HasWorked}
 
 -- what was read of a disk
 abbrev pub Held : Type 0
-Held = Reading SessionValue
+Held = Reading SessionValue Action Refused
 
 -- it, below a heading
 abbrev pub held_text : List ℕ → Held → List ℕ

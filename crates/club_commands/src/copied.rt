@@ -25,12 +25,6 @@ use std::io::Write;
 /// How many endings are kept for the answers to `SOLVE`.
 const CACHED_ENDINGS: usize = 4096;
 
-/// What standard error is told at once where the disk is lost.
-const DISK_LOST: &str = "disk lost, session goes on in the copy\n";
-
-/// The same where the copy is.
-const COPY_LOST: &str = "copy lost, session goes on in the disk\n";
-
 /// The files of two disks.
 #[derive(Clone, Copy)]
 pub struct TwoDisks<'a> {
@@ -50,23 +44,17 @@ fn disk_names(
     let disk_lost = format!(in alloc; "{copy} alone, {disk} is lost")?;
     let copy_lost = format!(in alloc; "{disk} alone, {copy} is lost")?;
     let level = format!(in alloc; "{disk} and {copy}")?;
-    if disk_first {
-        Ok(DiskNames {
-            level,
-            first_lost: disk_lost,
-            second_lost: copy_lost,
-            first_lost_line: DISK_LOST,
-            second_lost_line: COPY_LOST,
-        })
+    let (first_lost, second_lost) = if disk_first {
+        (disk_lost, copy_lost)
     } else {
-        Ok(DiskNames {
-            level,
-            first_lost: copy_lost,
-            second_lost: disk_lost,
-            first_lost_line: COPY_LOST,
-            second_lost_line: DISK_LOST,
-        })
-    }
+        (copy_lost, disk_lost)
+    };
+    Ok(DiskNames {
+        level,
+        first_lost,
+        second_lost,
+        disk_first,
+    })
 }
 
 /// Shows pages over a session, where it was opened on two disks and there was memory for a cache of endings. What was opened and

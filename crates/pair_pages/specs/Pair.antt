@@ -1,5 +1,5 @@
 -- Lines that came in one request, answered over two stores of one session.
-use Rattle.std.specs.Prelude.{◌≡◌, ◌⊎◌, ◌&&◌, ℕ, Bool, true, false, List, [], Option, None, Some, string_bytes, option_map}
+use Rattle.std.specs.Prelude.{◌≡◌, ◌⊎◌, ◌&&◌, ℕ, Bool, true, false, not, List, [], codes, Option, None, Some, string_bytes, option_map}
 use Rattle.sector_disk.specs.Disk.{Disk}
 use Rattle.session_store.specs.Pair.{IsToldPair, OneWorks}
 use Rattle.session_store.specs.Store.{Continues}
@@ -42,10 +42,15 @@ disk_name names (Some FirstLost) = string_bytes names.first_lost
 disk_name names (Some SecondLost) = string_bytes names.second_lost
 disk_name names _ = string_bytes names.level
 
+-- the line of standard error that says that the disk is lost, or the copy
+abbrev pub lost_of : Bool → List ℕ
+lost_of true = codes "disk lost, session goes on in the copy\n"
+lost_of false = codes "copy lost, session goes on in the disk\n"
+
 -- the line of standard error once the disks stand so
 abbrev pub lost_line : DiskNames → Option PairStanding → List ℕ
-lost_line names (Some FirstLost) = names.first_lost_line.now
-lost_line names (Some SecondLost) = names.second_lost_line.now
+lost_line names (Some FirstLost) = lost_of names.disk_first
+lost_line names (Some SecondLost) = lost_of (not names.disk_first)
 lost_line names _ = []
 
 -- what stands beside the session, where the disks have that name

@@ -4,6 +4,12 @@ ghost use Rattle.pair_pages.specs.Pair.{disk_name, lost_line};
 
 use session_store::PairStanding;
 
+/// What standard error is told at once where the disk is lost.
+const DISK_LOST: &str = "disk lost, session goes on in the copy\n";
+
+/// The same where the copy is.
+const COPY_LOST: &str = "copy lost, session goes on in the disk\n";
+
 /// What the director is told of the disks, by which of them are still kept.
 #[derive(Drop)]
 pub struct DiskNames {
@@ -13,10 +19,8 @@ pub struct DiskNames {
     pub first_lost: String,
     /// Where the second is lost.
     pub second_lost: String,
-    /// The line of standard error once the first is lost.
-    pub first_lost_line: &'static str,
-    /// The same once the second is.
-    pub second_lost_line: &'static str,
+    /// Whether the first is the disk that was named first, and the second its copy.
+    pub disk_first: bool,
 }
 
 impl DiskNames {
@@ -35,9 +39,11 @@ impl DiskNames {
     pub fn lost_line(&self, standing: Option<PairStanding>) -> &'static str
         ensures { result.now ≡ lost_line self.now standing }
     {
-        match standing {
-            Some(PairStanding::FirstLost) => self.first_lost_line,
-            Some(PairStanding::SecondLost) => self.second_lost_line,
+        match (standing, self.disk_first) {
+            (Some(PairStanding::FirstLost), true) => DISK_LOST,
+            (Some(PairStanding::FirstLost), false) => COPY_LOST,
+            (Some(PairStanding::SecondLost), true) => COPY_LOST,
+            (Some(PairStanding::SecondLost), false) => DISK_LOST,
             _ => "",
         }
     }
