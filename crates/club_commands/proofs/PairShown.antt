@@ -1,5 +1,5 @@
 -- Pages over two disks.
-use Rattle.std.proofs.Common.{◌≡◌, ◌&&◌, Bool, List, Option, true, false, inl, inr, sym, ap, subst, ◌∙◌}
+use Rattle.std.proofs.Common.{◌≡◌, ◌&&◌, Bool, Option, true, inr, sym, ap, subst, ◌∙◌}
 use Rattle.bridge_results.specs.ShownPairs.{Names}
 use Rattle.command_line.specs.declared.command.WebHost.{WebHost}
 use Rattle.club_disk.specs.Stored.{ClubStore}
@@ -9,7 +9,6 @@ use Rattle.session_pair.specs.Joining.{IsOne}
 use Rattle.session_pair.specs.declared.joining.Judged.{Judged}
 use Rattle.pair_pages.specs.Pair.{are_settled, pair_of}
 use Rattle.pair_pages.specs.declared.pair_server.PairServer.{PairServer}
-use Rattle.session_rules.specs.declared.action.Action.{Action}
 use Rattle.session_store.specs.Pair.{standing_of}
 use Rattle.session_store.specs.declared.standing.PairStanding.{PairStanding}
 use Rattle.table_pages.specs.Answered.{is_settled}

@@ -1,6 +1,6 @@
 -- What a work over a disk in a file did.
-use Rattle.std.proofs.Common.{◌≡◌, List, ℕ, Option, None, Some, Result, Ok, Err, IfOk, IfErr, inl, inr, refl}
-use Rattle.line_text.specs.Streams.{Stream, stream, TakesPrefix}
+use Rattle.std.proofs.Common.{Option, None, Some, Result, Ok, Err, IfOk, IfErr, inl, inr, refl}
+use Rattle.line_text.specs.Streams.{Stream}
 use Rattle.sector_disk.specs.Disk.{Disk}
 use Rattle.sector_disk.specs.File.{file_disk}
 use Rattle.line_replies.specs.declared.fault.ServeFault.{ServeFault}

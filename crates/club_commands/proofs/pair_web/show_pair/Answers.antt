@@ -1,4 +1,3 @@
-use Rattle.std.proofs.Common.{sym}
 use Rattle.club_commands.proofs.PairShown.{ended_at}
 use Rattle.club_commands.proofs.pair_web.show_pair.Goals as goal
 

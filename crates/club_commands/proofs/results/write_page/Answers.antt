@@ -1,4 +1,4 @@
-use Rattle.std.proofs.Common.{◌∙◌, ap, length}
+use Rattle.std.proofs.Common.{ap, length}
 use Rattle.bridge_config.specs.ConfigValue.{ConfigValue}
 use Rattle.evening_commands.specs.People.{fits}
 use Rattle.club_commands.proofs.results.write_page.Goals as goal

@@ -1,6 +1,6 @@
-use Rattle.std.proofs.Common.{◌∙◌, inl, inr, refl, sym}
+use Rattle.std.proofs.Common.{◌∙◌, inr, refl, sym}
 use Rattle.line_text.specs.Streams.{stream}
-use Rattle.table_server.proofs.FaultLemmas.{met_none, met_one}
+use Rattle.table_server.proofs.FaultLemmas.{met_one}
 use Rattle.club_commands.proofs.Served.{ends_serving}
 use Rattle.club_commands.proofs.script.serve_store.Goals as goal
 
