@@ -266,16 +266,18 @@ async function openPlay(words) {
   opened = wanted;
   showTab("rulings");
   showPlay();
+  if (!at("on-rulings").contains(document.activeElement)) at("play-" + words[2]).focus();
+  if (typeof scrollTo === "function") scrollTo(0, 0);
   await showOpened();
   for (const place of placesInSet()) if (place !== words[2] && opened === wanted) await askPlay([words[0], words[1], place]);
   showChoosing();
   await showRulings();
-  if (typeof scrollTo === "function") scrollTo(0, 0);
 }
 
 function closePlay() {
   opened = null;
   showPlay();
+  at("rule-table").focus();
 }
 
 async function showOpened() {
@@ -370,12 +372,10 @@ function choosingNodes() {
     };
     return node;
   };
-  const call = desk.calls.find((one) => one.table === table && Number(round) === now);
   return [
     list("rule-round", TEXTS.round, Array.from({ length: Math.min(now, rounds) }, (_none, i) => [String(i + 1), TEXTS.roundNow(i + 1, i + 1 === now)]), round),
     list("rule-table", TEXTS.tableField, [...(opened ? [] : [["", TEXTS.choose]]), ...tableNumbers.map((number) => [number, number])], table),
     ...(opened ? [make("div", { id: "plays", role: "group", aria_label: TEXTS.boardField }, ...boardTiles(opened.words))] : [make("p", { className: "second" }, TEXTS.chooseTable)]),
-    ...(call ? [make("p", { className: "calls-now" }, TEXTS.calledAt(call.time))] : []),
     ...(opened ? [make("button", { type: "button", id: "opened-close", onclick: closePlay }, TEXTS.close)] : [])];
 }
 
@@ -385,7 +385,7 @@ function showChoosing() {
   const { round, rounds, tables } = lastTables;
   const words = opened ? opened.words : [];
   const told = placesInSet().map((place) => toldPlays.get([...words.slice(0, 2), place].join(" ")));
-  const made = JSON.stringify([round, rounds, tables.map((table) => table.number), words, told, desk.calls.map((call) => [call.table, call.time])]);
+  const made = JSON.stringify([round, rounds, tables.map((table) => table.number), words, told]);
   if (made === choosingShown && at("rule-round")) return;
   choosingShown = made;
   drawAnew(at("choosing"), choosingNodes());
@@ -784,6 +784,33 @@ async function showRulings() {
   at("others").replaceChildren(...othersNodes(open));
 }
 
+// ---- the disks
+
+// The disks that the session is on: each with its name, and whether it is lost.
+function disksOf(text) {
+  const [, kept, lost] = /^(.*) alone, (.*) is lost$/.exec(text) || [];
+  if (lost !== undefined) return [{ name: kept, isLost: false }, { name: lost, isLost: true }];
+  return text.split(" and ").filter((name) => name !== "").map((name) => ({ name, isLost: false }));
+}
+
+// A tile for each, and what is to be done where one fails.
+function diskNodes(disks) {
+  const isOneLost = disks.some((disk) => disk.isLost);
+  const tile = ({ name, isLost }, i) => make("li", { className: isLost ? "is-lost" : "" },
+    make("b", null, disks.length > 1 && !isOneLost ? TEXTS.diskOf(i) : TEXTS.oneDisk), make("span", { className: "second" }, name),
+    make("span", { className: "large" }, isLost ? TEXTS.diskIsLost : TEXTS.diskInOrder), make("span", { className: "second" }, isLost ? TEXTS.writtenNoMore : TEXTS.writtenFirst));
+  return [make("ul", { className: "disks" }, ...disks.map(tile)), make("h3", null, TEXTS.ifDiskFails),
+    make("ol", null, ...TEXTS.diskSteps(disks.length, isOneLost).map((step) => make("li", null, step)))];
+}
+
+function showDisks() {
+  if (desk.ends === null) return;
+  say("serving", TEXTS.serving(new Date(desk.at + SECOND * desk.ends).toLocaleTimeString([], { hour: "2-digit", minute: "2-digit" })));
+  if (desk.disk === at("disks").shows) return;
+  at("disks").shows = desk.disk;
+  at("disks").replaceChildren(...(desk.disk ? diskNodes(disksOf(desk.disk)) : []));
+}
+
 async function turnOthers(word) {
   const reply = await ask("/boards", key + " " + word);
   tell(reply === null ? TEXTS.unknownDone : refusal(reply) ? outcome(reply) : "");
@@ -891,7 +918,7 @@ function directorNodes() {
     on("boards", section("dealing", TEXTS.dealBoards, ...dealNodes())),
     on("rulings", ...rulingsNodes()),
     on("standings", section("ranking", TEXTS.standings, button(TEXTS.showRanking, "", "rank", true, askRankings), make("div", { id: "rankings" }))),
-    on("evening", section("keeping", TEXTS.thisEvening, make("p", { id: "serving" })), section("seeing", TEXTS.othersHead, make("div", { id: "others" }, ...othersNodes(null))),
+    on("evening", section("keeping", TEXTS.thisEvening, make("p", { id: "serving" }), make("div", { id: "disks" })), section("seeing", TEXTS.othersHead, make("div", { id: "others" }, ...othersNodes(null))),
       section("publishing", TEXTS.results, make("div", { className: "row" },
         button(TEXTS.showResults, "", "show-results", true, showResults), button(TEXTS.print, "", "print", true, () => window.print())),
       make("pre", { id: "results" })),
@@ -925,7 +952,7 @@ async function showDirector(reply, asked, mine) {
   }
   if (mine !== turn) return;
   showTables(state);
-  if (desk.ends !== null) say("serving", TEXTS.serving(desk.disk, new Date(desk.at + SECOND * desk.ends).toLocaleTimeString([], { hour: "2-digit", minute: "2-digit" })));
+  showDisks();
   showChoosing();
   if (tab === "rulings") await showOpened();
   if (tab === "rulings" || tab === "evening") await showRulings();

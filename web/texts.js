@@ -303,7 +303,17 @@ const TEXTS = {
   pagesEnd: (minutes, isDirector) => (minutes === 1 ? "In a minute" : "In " + minutes + " minutes") + " the pages close. What was played is kept"
     + (isDirector ? "; start the command again to go on." : "."),
   diskLost: (which) => "A disk has failed: " + which + ". The evening goes on.",
-  serving: (disk, time) => (disk ? "Disk: " + disk + ". " : "") + "The pages close at " + time + ".",
+  serving: (time) => "The pages close at " + time + ".",
+  oneDisk: "Disk",
+  diskOf: (index) => ["First disk", "Second disk"][index],
+  diskInOrder: "In order",
+  diskIsLost: "Lost",
+  writtenFirst: "Each action is on it before it is answered.",
+  writtenNoMore: "Nothing more is written to it.",
+  ifDiskFails: "If a disk fails",
+  diskSteps: (count, isLost) => (isLost ? ["Play on to the end: the other disk has all.", "Then copy the good disk anew."]
+    : count > 1 ? ["The evening goes on from the other one, and this page says so.", "If the computer dies, start the command on another one with the disk that is left: what was seen answered is there."]
+      : ["Every page says so, and nobody plays on.", "Free the device, and start the same command again: what was seen answered is there."]),
   clockLeft: "left",
   minutesLeft: (minutes) => (minutes === 1 ? "One minute left" : minutes + " minutes left") + " in this round",
   claimSays: "What you say with it (may be left out)",
@@ -397,7 +407,6 @@ const TEXTS = {
   roundNow: (round, isNow) => round + (isNow ? " (now)" : ""),
   choose: "\u2013",
   chooseTable: "Choose a table here, or open one from its card.",
-  calledAt: (time) => "Called " + time,
   placeOf: (index) => ["1st", "2nd", "3rd"][index] || index + 1 + "th",
   inAuction: "auction",
   notBegun: "not begun",

@@ -348,6 +348,7 @@ run({
     assert.deepStrictEqual([page.text("below"), page.text("opened").slice(0, 14)], ["Ruling \u00b7 table 2, round 2", "3NT E, one dow"]);
     assert.ok(!page.at("on-rulings").hidden && page.at("on-tables").hidden);
     assert.deepStrictEqual(await page.look(), [...LOOKS, PLAY, `/boards ${KEY}`]);
+    assert.strictEqual(page.document.activeElement.id, "play-3");
     assert.deepStrictEqual(await page.click("play-1"), [`/boards ${KEY} 2 2 1`, `/boards ${KEY} 2 2 2`, PLAY, `/boards ${KEY}`]);
     await page.click("opened-close");
     assert.deepStrictEqual([page.at("tricks"), page.at("ruling").hidden, page.text("below")], [null, true, "Round 2 of 7"]);
@@ -461,7 +462,6 @@ run({
     const page = await opened(tables(AT_PLAY), "OK\n", played(), "OK\nNOW 9 14400\nCALL 2 5 2 Dan I did not mean my last call or card\nCALL 1 7 8 Fay Claim\n.\n");
     assert.strictEqual(page.at("grant-1"), null);
     assert.deepStrictEqual(await page.click("grant-2"), OPENS);
-    assert.match(page.text("choosing"), /Called /);
     assert.match(page.text("rule-question"), /^Take back East's 2 of diamonds, table 2, board 6\?/);
     const then = await page.click("yes");
     const granted = then.indexOf(`/correct BACK ${KEY} 2 2 3\n`);
@@ -540,7 +540,8 @@ run({
 
   "the disk is named, and is nothing that is waited with": async () => {
     const page = await opened(tables(AT_PLAY), "OK\n", played(), "OK\nNOW 0 14400\nDISK tonight.disk\nNOTICE Tea\n.\n");
-    assert.match(page.text("serving"), /^Disk: tonight\.disk\. The pages close at /);
+    assert.match(page.text("serving"), /^The pages close at /);
+    assert.match(page.text("disks"), /^Disktonight\.diskIn orderEach action is on it before it is answered\./);
     assert.deepStrictEqual(page.waits.map((wait) => wait.body), [`${KEY}\n${tables(AT_PLAY)}NOTICE Tea\n`]);
   },
 
@@ -548,6 +549,9 @@ run({
     const named = (name) => opened(tables(AT_PLAY), "OK\n", played(), `OK\nNOW 0 14400\nDISK ${name}\n.\n`);
     assert.strictEqual((await named("a.disk and b.disk")).at("lost-disk"), null);
     assert.strictEqual((await named("b.disk alone, a.disk is lost")).text("lost-disk"), "A disk has failed: b.disk alone, a.disk is lost. The evening goes on.");
+    const tiles = async (name) => (await named(name)).at("disks").nodes[0].nodes.map((tile) => tile.nodes.slice(0, 3).map((node) => node.textContent).join(" "));
+    assert.deepStrictEqual(await tiles("a.disk and b.disk"), ["First disk a.disk In order", "Second disk b.disk In order"]);
+    assert.deepStrictEqual(await tiles("b.disk alone, a.disk is lost"), ["Disk b.disk In order", "Disk a.disk Lost"]);
   },
 
   "each field stands under its heading": async () => {

@@ -187,6 +187,7 @@ body.login main { max-width: 28rem; margin: auto; }
 .login .panel .large { margin: 0 0 .75rem; font-size: 1.625rem; }
 .login .second { font-size: .875rem; }
 .login-more { margin-top: 1rem; }
+.login a.send { display: grid; place-items: center; min-height: 3.25rem; border-radius: .5rem; font-size: 1.125rem; font-weight: bold; text-decoration: none; }
 #colours::before { content: "Aa"; margin-right: .6rem; font-weight: normal; }
 #wrong { margin: .4rem 0; padding-left: 1.5rem; color: var(--bad); font-weight: bold; }
 #wrong:not(:empty)::before { content: "\2715"; float: left; margin-left: -1.4rem; }
@@ -242,6 +243,14 @@ body.director main { max-width: 84rem; }
 #clock-runs b { margin-right: auto; font-size: 2.25rem; line-height: 1; }
 #clock-sets input { width: 4rem; }
 #round p, #telling .row { margin: .2rem 0; }
+.disks { display: grid; grid-template-columns: repeat(auto-fit, minmax(min(100%, 14rem), 1fr)); gap: .6rem; margin: .5rem 0; padding: 0; list-style: none; }
+.disks li { display: grid; padding: .5rem .75rem; border: 1px solid var(--line); border-left: .5rem solid var(--good); border-radius: .75rem; overflow-wrap: anywhere; font-size: .875rem; }
+.disks b { font-size: 1rem; }
+.disks .large { font-size: 1.125rem; }
+.disks .large::before { content: "\2713\a0"; color: var(--good); }
+.disks .is-lost { border-color: var(--vul); }
+.disks .is-lost .large::before { content: "\2715\a0"; color: var(--bad); }
+#disks ol { margin: .2rem 0; padding-left: 1.3rem; }
 .question:empty { display: none; }
 .question > p:last-of-type:not(:only-of-type) { padding: 0; font-weight: normal; background: none; }
 #tell-text { flex: 1; width: auto; min-width: 0; }
@@ -275,10 +284,8 @@ body.director main { max-width: 84rem; }
 .tile > span { display: block; font-size: .875rem; line-height: 1.2; }
 :is(.tile, .per button)[aria-pressed=true] { color: var(--page); background: var(--ink); }
 .tile[aria-pressed=true] .suit { color: inherit; }
-.calls-now { padding: .05rem .7rem; border-radius: 1rem; color: #fff; background: var(--vul); font-size: .9375rem; font-weight: bold; }
 #opened-close { margin-left: auto; }
 #opened h2::first-letter { text-transform: uppercase; }
-@media (max-width: 39.99em) { .calls-now { display: none; } }
 .steps .large { min-width: 2.5rem; margin: 0; text-align: center; }
 .steps button { width: 3.25rem; min-height: 3.25rem; font-size: 1.5rem; line-height: 1; }
 #back-to { flex: 1 1 8rem; margin: 0 0 0 .4rem; }
@@ -319,7 +326,7 @@ body.director main { max-width: 84rem; }
 .director #tables .slow { border-color: var(--wait); }
 .director #tables .slow td:nth-child(7) { color: var(--gold-ink); background: var(--gold); }
 .director #tables .slow td:nth-child(6) { color: var(--ink); font-weight: bold; }
-.director #tables .called { border-color: var(--vul); }
+.director #tables .called { border-color: var(--vul); box-shadow: 0 0 0 2px var(--vul); }
 .director #tables .called td:nth-child(7) { color: #fff; background: var(--vul); }
 .director #tables .called td:nth-child(7)::before { content: "!\a0"; }
 .director #tables .done td:nth-child(7)::before { content: "\2713\a0"; }
@@ -364,9 +371,8 @@ body.director main { max-width: 84rem; }
 }
 @media (min-width: 80em) { #on-rulings { grid-template: "c c c" auto "h p r" auto "s s r" 1fr / minmax(0, 5fr) minmax(0, 4fr) 26rem; } }
 @media (min-width: 40em) {
-  #plays { order: 0; flex: 0 1 auto; grid-template-columns: repeat(3, auto); }
-  .tile > span { display: inline; font-size: 1rem; }
-  .tile { padding: .2rem .75rem; }
+  #plays { order: 0; flex: 1 1 24rem; }
+  .tile > span { display: inline; }
 }
 #opened { display: contents; }
 #opened .hands { grid-area: h; }
@@ -425,7 +431,7 @@ summary { cursor: pointer; min-height: 2.2rem; font-weight: bold; }
 .tally i { width: .35rem; height: .35rem; border-radius: 50%; background: var(--bar-second); opacity: .7; }
 .tally .ours { width: .4rem; height: .85rem; border-radius: 1px; background: #fff; opacity: 1; }
 .tally .theirs { width: .85rem; height: .4rem; border-radius: 1px; background: var(--felt-red); opacity: 1; }
-.score { font-weight: bold; }
+.score { font-weight: bold; white-space: nowrap; }
 #side { display: none; grid-area: side; min-width: 0; color: var(--ink); background: var(--panel); }
 #side h2 { margin: 0 0 .2rem; font-size: .875rem; font-weight: normal; color: var(--second); }
 .side-last p { display: grid; grid-template-columns: repeat(4, auto); justify-content: space-between; margin: 0; }
@@ -807,6 +813,7 @@ td.marked { outline: 2px dashed var(--blue); outline-offset: -2px; }
 .boards #main { display: flex; flex-direction: column; flex: 1; max-width: 84rem; padding-bottom: 0; }
 .wide-panel { max-width: none; }
 .boards .panel { width: 100%; max-width: none; margin: 0 0 .75rem; }
+.boards:not(.over) #onward::after { order: -1; transform: scaleX(-1); }
 .tiles ol { display: flex; flex-wrap: wrap; gap: .35rem; margin: 0; padding: 0; list-style: none; }
 .tiles p { margin: .5rem 0 .25rem; }
 .tiles li { padding: .2rem .5rem; border: 1px solid var(--edge); border-radius: .5rem; font-size: .875rem; font-variant-numeric: tabular-nums; }
@@ -938,6 +945,20 @@ td.marked { outline: 2px dashed var(--blue); outline-offset: -2px; }
   .suit-line > :not(.suit) { margin-right: .14rem; }
   .over #dock.onward { margin: auto -.5rem 0; }
 }
+/* Many numbers of a claim stand in even rows. */
+@media (max-width: 39.99em) and (orientation: portrait) {
+  .numbers:has(> :nth-child(8)) { grid-template-columns: repeat(4, 1fr); }
+  .numbers:has(> :nth-child(9)) { grid-template-columns: repeat(5, 1fr); }
+  .numbers:has(> :nth-child(11)) { grid-template-columns: repeat(6, 1fr); }
+}
+/* The smallest screens. */
+@media (max-width: 21em) {
+  :is(.boards, .final) #card tr { grid-template-columns: 2.75rem minmax(3rem, 1fr) 1.9rem 1.2rem 2.9rem 3.6rem; font-size: .875rem; }
+  #strip { gap: .25rem; padding: .1rem .5rem; }
+  #opened .diagram { --tw: 1.4rem; --th: 2rem; gap: .1rem .25rem; }
+  #opened :is(.of-middle, .board-picture) { min-width: 5rem; width: 5rem; }
+  .steps { flex-wrap: nowrap; }
+}
 /* Large letters on a small screen: one below the other. */
 @media (max-width: 17em) {
   .at-table { --tw: 2rem; --th: 2.75rem; --cw: 2.6rem; --fw: 2.6rem; --ch: 3.25rem; }
@@ -994,7 +1015,7 @@ td.marked { outline: 2px dashed var(--blue); outline-offset: -2px; }
   #options > fieldset { grid-row: 2; }
   #choices .row { flex-wrap: nowrap; margin: 0; }
   body.login main { max-width: 46rem; }
-  .login .panel { display: grid; grid-template: "head key" auto "more key" 1fr / 1fr 1fr; gap: 0 1.5rem; }
+  .login .panel { display: grid; grid-template: "head key" auto "more key" 1fr / 1fr 1fr; gap: 0 1.5rem; max-width: none; }
   .login-key { grid-area: key; }
   .login-more { align-self: end; margin: 0; }
 }
@@ -1316,7 +1337,17 @@ const TEXTS = {
   pagesEnd: (minutes, isDirector) => (minutes === 1 ? "In a minute" : "In " + minutes + " minutes") + " the pages close. What was played is kept"
     + (isDirector ? "; start the command again to go on." : "."),
   diskLost: (which) => "A disk has failed: " + which + ". The evening goes on.",
-  serving: (disk, time) => (disk ? "Disk: " + disk + ". " : "") + "The pages close at " + time + ".",
+  serving: (time) => "The pages close at " + time + ".",
+  oneDisk: "Disk",
+  diskOf: (index) => ["First disk", "Second disk"][index],
+  diskInOrder: "In order",
+  diskIsLost: "Lost",
+  writtenFirst: "Each action is on it before it is answered.",
+  writtenNoMore: "Nothing more is written to it.",
+  ifDiskFails: "If a disk fails",
+  diskSteps: (count, isLost) => (isLost ? ["Play on to the end: the other disk has all.", "Then copy the good disk anew."]
+    : count > 1 ? ["The evening goes on from the other one, and this page says so.", "If the computer dies, start the command on another one with the disk that is left: what was seen answered is there."]
+      : ["Every page says so, and nobody plays on.", "Free the device, and start the same command again: what was seen answered is there."]),
   clockLeft: "left",
   minutesLeft: (minutes) => (minutes === 1 ? "One minute left" : minutes + " minutes left") + " in this round",
   claimSays: "What you say with it (may be left out)",
@@ -1410,7 +1441,6 @@ const TEXTS = {
   roundNow: (round, isNow) => round + (isNow ? " (now)" : ""),
   choose: "\u2013",
   chooseTable: "Choose a table here, or open one from its card.",
-  calledAt: (time) => "Called " + time,
   placeOf: (index) => ["1st", "2nd", "3rd"][index] || index + 1 + "th",
   inAuction: "auction",
   notBegun: "not begun",
@@ -3815,16 +3845,18 @@ async function openPlay(words) {
   opened = wanted;
   showTab("rulings");
   showPlay();
+  if (!at("on-rulings").contains(document.activeElement)) at("play-" + words[2]).focus();
+  if (typeof scrollTo === "function") scrollTo(0, 0);
   await showOpened();
   for (const place of placesInSet()) if (place !== words[2] && opened === wanted) await askPlay([words[0], words[1], place]);
   showChoosing();
   await showRulings();
-  if (typeof scrollTo === "function") scrollTo(0, 0);
 }
 
 function closePlay() {
   opened = null;
   showPlay();
+  at("rule-table").focus();
 }
 
 async function showOpened() {
@@ -3919,12 +3951,10 @@ function choosingNodes() {
     };
     return node;
   };
-  const call = desk.calls.find((one) => one.table === table && Number(round) === now);
   return [
     list("rule-round", TEXTS.round, Array.from({ length: Math.min(now, rounds) }, (_none, i) => [String(i + 1), TEXTS.roundNow(i + 1, i + 1 === now)]), round),
     list("rule-table", TEXTS.tableField, [...(opened ? [] : [["", TEXTS.choose]]), ...tableNumbers.map((number) => [number, number])], table),
     ...(opened ? [make("div", { id: "plays", role: "group", aria_label: TEXTS.boardField }, ...boardTiles(opened.words))] : [make("p", { className: "second" }, TEXTS.chooseTable)]),
-    ...(call ? [make("p", { className: "calls-now" }, TEXTS.calledAt(call.time))] : []),
     ...(opened ? [make("button", { type: "button", id: "opened-close", onclick: closePlay }, TEXTS.close)] : [])];
 }
 
@@ -3934,7 +3964,7 @@ function showChoosing() {
   const { round, rounds, tables } = lastTables;
   const words = opened ? opened.words : [];
   const told = placesInSet().map((place) => toldPlays.get([...words.slice(0, 2), place].join(" ")));
-  const made = JSON.stringify([round, rounds, tables.map((table) => table.number), words, told, desk.calls.map((call) => [call.table, call.time])]);
+  const made = JSON.stringify([round, rounds, tables.map((table) => table.number), words, told]);
   if (made === choosingShown && at("rule-round")) return;
   choosingShown = made;
   drawAnew(at("choosing"), choosingNodes());
@@ -4333,6 +4363,33 @@ async function showRulings() {
   at("others").replaceChildren(...othersNodes(open));
 }
 
+// ---- the disks
+
+// The disks that the session is on: each with its name, and whether it is lost.
+function disksOf(text) {
+  const [, kept, lost] = /^(.*) alone, (.*) is lost$/.exec(text) || [];
+  if (lost !== undefined) return [{ name: kept, isLost: false }, { name: lost, isLost: true }];
+  return text.split(" and ").filter((name) => name !== "").map((name) => ({ name, isLost: false }));
+}
+
+// A tile for each, and what is to be done where one fails.
+function diskNodes(disks) {
+  const isOneLost = disks.some((disk) => disk.isLost);
+  const tile = ({ name, isLost }, i) => make("li", { className: isLost ? "is-lost" : "" },
+    make("b", null, disks.length > 1 && !isOneLost ? TEXTS.diskOf(i) : TEXTS.oneDisk), make("span", { className: "second" }, name),
+    make("span", { className: "large" }, isLost ? TEXTS.diskIsLost : TEXTS.diskInOrder), make("span", { className: "second" }, isLost ? TEXTS.writtenNoMore : TEXTS.writtenFirst));
+  return [make("ul", { className: "disks" }, ...disks.map(tile)), make("h3", null, TEXTS.ifDiskFails),
+    make("ol", null, ...TEXTS.diskSteps(disks.length, isOneLost).map((step) => make("li", null, step)))];
+}
+
+function showDisks() {
+  if (desk.ends === null) return;
+  say("serving", TEXTS.serving(new Date(desk.at + SECOND * desk.ends).toLocaleTimeString([], { hour: "2-digit", minute: "2-digit" })));
+  if (desk.disk === at("disks").shows) return;
+  at("disks").shows = desk.disk;
+  at("disks").replaceChildren(...(desk.disk ? diskNodes(disksOf(desk.disk)) : []));
+}
+
 async function turnOthers(word) {
   const reply = await ask("/boards", key + " " + word);
   tell(reply === null ? TEXTS.unknownDone : refusal(reply) ? outcome(reply) : "");
@@ -4440,7 +4497,7 @@ function directorNodes() {
     on("boards", section("dealing", TEXTS.dealBoards, ...dealNodes())),
     on("rulings", ...rulingsNodes()),
     on("standings", section("ranking", TEXTS.standings, button(TEXTS.showRanking, "", "rank", true, askRankings), make("div", { id: "rankings" }))),
-    on("evening", section("keeping", TEXTS.thisEvening, make("p", { id: "serving" })), section("seeing", TEXTS.othersHead, make("div", { id: "others" }, ...othersNodes(null))),
+    on("evening", section("keeping", TEXTS.thisEvening, make("p", { id: "serving" }), make("div", { id: "disks" })), section("seeing", TEXTS.othersHead, make("div", { id: "others" }, ...othersNodes(null))),
       section("publishing", TEXTS.results, make("div", { className: "row" },
         button(TEXTS.showResults, "", "show-results", true, showResults), button(TEXTS.print, "", "print", true, () => window.print())),
       make("pre", { id: "results" })),
@@ -4474,7 +4531,7 @@ async function showDirector(reply, asked, mine) {
   }
   if (mine !== turn) return;
   showTables(state);
-  if (desk.ends !== null) say("serving", TEXTS.serving(desk.disk, new Date(desk.at + SECOND * desk.ends).toLocaleTimeString([], { hour: "2-digit", minute: "2-digit" })));
+  showDisks();
   showChoosing();
   if (tab === "rulings") await showOpened();
   if (tab === "rulings" || tab === "evening") await showRulings();
@@ -4493,10 +4550,12 @@ pub const UNKNOWN_PAGE: &str = r##"<!doctype html>
 <link rel="icon" href="data:,">
 <link rel="stylesheet" href="/table.css">
 </head>
-<body>
-<main class="panel">
-<h1>No such page</h1>
-<p>The bridge tables are at <a href="/">the first page of this server</a>.</p>
+<body class="login">
+<main>
+<div class="panel">
+<div class="login-head"><h1 class="large">No such page</h1></div>
+<div class="login-key"><p>The bridge tables are at the first page of this server.</p><p><a class="send" href="/">To the tables</a></p></div>
+</div>
 </main>
 </body>
 </html>
