@@ -168,6 +168,8 @@ body:not(.at-table) main { max-width: 64rem; margin: 0 auto; padding: .75rem; }
 body:not(.at-table) { display: flex; flex-direction: column; }
 body:not(.at-table) main { order: 2; width: 100%; }
 body:not(.at-table) #status { order: 1; align-self: center; margin: .75rem .75rem 0; font-weight: bold; }
+/* That no answer comes moves nothing on the director's page. */
+body.director:not(.at-table) #status.lost { position: fixed; inset: auto 0 .75rem; z-index: 5; width: fit-content; margin: 0 auto; color: var(--note-ink); background: var(--note); }
 .panel { max-width: 40rem; margin: 0 auto .75rem; padding: .75rem 1rem; background: var(--panel); border: 1px solid var(--line); border-radius: .75rem; }
 .panel h2:first-child { margin-top: 0; }
 .large { font-size: 1.875rem; font-weight: bold; line-height: 1.2; margin: .2rem 0; }
