@@ -996,6 +996,8 @@ td.marked { outline: 2px dashed var(--blue); outline-offset: -2px; }
   :is(.sides, #rankings) thead { display: none; }
   .director :is(.field, .row) { min-width: 0; max-width: 100%; }
   .per, #plays { grid-template-columns: minmax(0, 1fr); }
+  .steps { flex-wrap: wrap; }
+  #back-to { flex-basis: 100%; margin: 0; }
   #opened .diagram { grid-template: "top" auto "left" auto "middle" auto "right" auto "bottom" auto / minmax(0, 1fr); }
   #opened .of-top, #opened .of-bottom { max-width: none; }
   .director #tables tr { grid-template: "n" auto "b" auto "s" auto "w" auto "p" auto "q" auto "m" auto "o" auto / minmax(0, 1fr); justify-items: start; }
