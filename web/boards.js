@@ -180,6 +180,8 @@ function trickPicture(board, own, step) {
   const node = make("div", { className: "trick", role: "group", aria_label: TEXTS.trick(trick + 1) });
   const cards = board.cards.slice(0, step).filter((one) => one.trick === trick);
   node.append(...cards.map((one) => cardOnTable(view, one, cards.length === 4 && one.winner === one.seat)));
+  // Whose card is due is told to the director alone.
+  if (board.result.none && step === board.cards.length && cards.length < 4) node.append(dueOnTable(view, nextTo(board.cards[step - 1].seat)));
   return node;
 }
 
@@ -191,7 +193,7 @@ function diagramNodes(board, own, step) {
 }
 
 // The four hands, and the play to step through. Its own clicks move it, and draw nothing else anew.
-function steppedNode(board, own, step, stepped) {
+function steppedNode(board, own, step, stepped, ...heads) {
   const diagram = make("div", { className: "diagram" });
   const words = make("p", { className: "stepped", role: "status" });
   const slider = make("input",
@@ -212,7 +214,7 @@ function steppedNode(board, own, step, stepped) {
     for (const row of table ? table.querySelectorAll("tr") : []) row.className = trickClass(board, now, row.id);
     stepped(now);
   };
-  const node = make("section", { className: "panel part hands", aria_label: TEXTS.hands }, diagram);
+  const node = make("section", { className: "panel part hands", aria_label: TEXTS.hands }, ...heads, diagram);
   if (board.cards.length) node.append(make("div", { className: "stepper" }, buttons[0], buttons[1], words, buttons[2], buttons[3]), slider);
   go(step);
   return node;

@@ -438,6 +438,8 @@ function cardOnTable(view, { seat, card }, won) {
     aria_label: SEAT_NAMES[seat] + ": " + cardName(card) }, ...cardNodes(card));
 }
 
+const dueOnTable = (view, seat) => make("span", { className: "due " + placeOf(view, seat), aria_hidden: "true" }, seat);
+
 // The trick on the table: the one at play, or the last whole one until the next card is led.
 function trickNode(view) {
   const sent = onWay.startsWith("card-") ? cardOnTable(view, { seat: view.turn, card: onWay.slice(5) }, false) : null;
@@ -448,7 +450,7 @@ function trickNode(view) {
   if (sent) sent.className += " sent";
   if (sent) node.append(sent);
   const due = whole || !onTurn(view) ? null : !sent ? view.turn : trick.length < 3 ? nextTo(view.turn) : null;
-  if (due) node.append(make("span", { className: "due " + placeOf(view, due), aria_hidden: "true" }, due));
+  if (due) node.append(dueOnTable(view, due));
   return node;
 }
 

@@ -43,6 +43,10 @@ def text_of(element):
     return f"document.getElementById('{element}').textContent"
 
 
+# The board whose tile is pressed.
+PRESSED = "document.querySelector('#plays [aria-pressed=true] b')?.textContent"
+
+
 def guests(round_, table):
     """The pair of East and West: they go up a table after each round."""
     return TABLES + (table - round_) % TABLES
@@ -148,6 +152,21 @@ def unfold(window):
             window.click(f"#ruling details:nth-of-type({number}) summary")
 
 
+def shows(window, evening, play):
+    """Chooses a play where it is not in sight: round and table from their lists, by a digit, and then the board's tile."""
+    round_, table, board = play
+    first = evening.first_board(round_, table)
+    if window.value(f"{text_of('below')} !== 'Ruling · table {table}, round {round_}' || {PRESSED} !== '{board}'"):
+        for field, number in [("rule-round", round_), ("rule-table", table)]:
+            if window.value(f"document.getElementById('{field}').value !== '{number}'"):
+                window.value(f"document.getElementById('{field}').focus()")
+                window.key(str(number), ord(str(number)), str(number))
+        window.wait(f"document.querySelectorAll('#plays .tile').length === {BOARDS} && {text_of('plays')}.includes('{first + BOARDS - 1} ')")
+        window.click(f"#play-{board - first + 1}")
+        window.wait(f"{PRESSED} === '{board}' && document.getElementById('opened-back')")
+    unfold(window)
+
+
 class Page:
     """The director's page, by clicks."""
 
@@ -162,8 +181,6 @@ class Page:
         if self.window.value(f"document.getElementById('on-{part}').hidden"):
             self.window.click(f"#tab-{part}")
             self.window.wait(f"!document.getElementById('on-{part}').hidden")
-        if part == "rulings":
-            unfold(self.window)
 
     def told(self, expected):
         self.window.wait(f"{text_of('told')} === {expected!r}")
@@ -172,16 +189,20 @@ class Page:
         self.window.type(f"#{field}", str(number))
 
     def choose(self, field, steps):
-        """Another choice, by the arrow keys."""
+        """The choice so many steps below the first, by keys."""
         self.window.value(f"document.getElementById('{field}').focus()")
+        self.window.key("Home", 36)
         for _ in range(steps):
             self.window.key("ArrowDown", 40)
 
+    def show(self, play):
+        """The play of (round, table, board), by the lists and the board's tile."""
+        self.open("rulings")
+        shows(self.window, self.evening, play)
+
     def rule(self, button, play, what):
         """A ruling on (round, table, board), left at its question, then done."""
-        self.open("rulings")
-        for field, number in zip(["rule-round", "rule-table", "rule-board"], play):
-            self.number(field, number)
+        self.show(play)
         name = "{}, round {}, table {}, board {}".format(what, *play)
         for answer in ["no", "yes"]:
             self.window.click(f"#{button}")
@@ -195,15 +216,6 @@ class Page:
                 time.sleep(0.5)
                 self.told("")
         self.told(f"{name}: done.")
-
-    def other_board(self, play, boards):
-        """A board that the table does not have is no question."""
-        self.open("rulings")
-        for field, number in zip(["rule-round", "rule-table", "rule-board"], play):
-            self.number(field, number)
-        self.window.click("#rule-void")
-        self.told(f"In round {play[0]} table {play[1]} has boards {boards}.")
-        assert self.window.value("document.getElementById('rule-question').childNodes.length === 0")
 
     def may_end(self):
         return not self.window.value("document.getElementById('end-round').disabled")
@@ -310,9 +322,9 @@ def take_back(evening, page, board):
     seat = ["North", "East", "South", "West"][(dealer + 1) % 4]
     call = page.window.value("callName('2H')")
     what = f"Take back {seat}'s {call}, table 1, board {board}"
-    is_asked(page, "#opened-back", "back-question", what, "no")
+    is_asked(page, "#opened-back", "rule-question", what, "no")
     page.told("")
-    is_asked(page, "#opened-back", "back-question", what, "yes")
+    is_asked(page, "#opened-back", "rule-question", what, "yes")
     page.told(f"{what}: done.")
     page.window.click("#opened-close")
     assert evening.lines(second) == "OK\n", "the call cannot be made again"
@@ -348,18 +360,18 @@ def first_round(evening, page):
             if (table, board) == (1, first):
                 take_back(evening, page, board)
             if (table, board) == (3, first + 1):
-                page.other_board((1, 3, 1), "7 to 9")
                 page.rule("rule-void", (1, 3, board), "Take the play out")
                 page.rule("rule-restore", (1, 3, board), "Take the ruling back")
                 page.rule("rule-void", (1, 3, board), "Take the play out")
             elif (table, board) == (5, first):
-                page.open("rulings")
-                page.choose("rule-ew", 2)
+                page.show((1, 5, board))
+                for side in ["per-NS-60", "per-EW-40"]:
+                    page.window.click(f"#{side}")
                 page.rule("rule-average", (1, 5, board), "Award 60 and 40 per cent")
             elif (table, board) == (6, first):
-                page.open("rulings")
+                page.show((1, 6, board))
                 page.choose("assign-bid", 18)
-                page.number("assign-tricks", 11)
+                page.choose("assign-tricks", 11)
                 page.rule("rule-assign", (1, 6, board), "Assign a score")
             else:
                 evening.play(1, table, board, 8 if (table, board) == (2, first) else None)
@@ -370,7 +382,8 @@ def first_round(evening, page):
         for key in list(evening.windows)[1:]:
             is_a_players(evening, key)
     opens(evening, page)
-    page.number("rule-tricks", 11)
+    page.show((1, 2, evening.first_board(1, 2)))
+    page.choose("rule-tricks", 11)
     page.rule("rule-set", (1, 2, evening.first_board(1, 2)), "Set declarer's tricks to 11")
     pictures(page.window, PICTURES, "round_is_done")
     page.end_round(1)
@@ -378,9 +391,8 @@ def first_round(evening, page):
 
 def solve(evening, page, board):
     """What the page says of the ending after eight tricks is what a line is answered."""
-    page.open("rulings")
-    for field, number in [("rule-round", 1), ("rule-table", 2), ("rule-board", board), ("solve-tricks", 8)]:
-        page.number(field, number)
+    page.show((1, 2, board))
+    page.choose("solve-tricks", 1)
     page.window.click("#solve")
     _, text = evening.server.posted("/lines", f"SOLVE {evening.director} 1 2 1 32\n")
     ok, ns, ew = text.split()
@@ -394,9 +406,9 @@ def opens(evening, page):
     page.window.click("#open-2")
     page.window.wait("document.getElementById('opened').querySelectorAll('.suit-line').length === 16")
     first = evening.first_board(1, 2)
-    assert page.window.value(f"{text_of('opened')}.includes('Board {first}')"), "another board is opened"
-    page.window.click(f"#opened-{first + 1}")
-    page.window.wait(f"document.getElementById('rule-board').value === '{first + 1}'")
+    page.window.wait(f"{PRESSED} === '{first}'")
+    page.window.click("#play-2")
+    page.window.wait(f"{PRESSED} === '{first + 1}'")
     pictures(page.window, PICTURES, "opened")
     page.window.click("#opened-close")
     page.window.wait("document.getElementById('opened').childNodes.length === 0")
@@ -407,27 +419,21 @@ def opens(evening, page):
 
 
 def boards_unseen(evening):
-    """A page that has not seen which boards were played asks, and takes no board of others and no number that is lacking."""
+    """A page that has not seen which boards were played shows them on their tiles, and rules on no play before one is chosen."""
     window = Window(evening.browser, f"http://127.0.0.1:{PORT}/")
     window.wait("document.getElementById('key')")
     window.type("#key", evening.director)
     window.key("Enter", 13, "\r")
     window.wait("document.getElementById('ruling')")
     window.click("#tab-rulings")
-    unfold(window)
-    for field, number in [("rule-round", 1), ("rule-table", 2), ("rule-board", 8)]:
-        window.type(f"#{field}", str(number))
-    window.click("#rule-void")
-    window.wait(f"{text_of('told')} === 'In round 1 table 2 has boards 4 to 6.'")
-    window.type("#rule-board", "5")
+    assert window.value("document.getElementById('ruling').hidden")
+    shows(window, evening, (1, 2, 5))
+    assert window.value("[...document.querySelectorAll('#plays .tile b')].map((one) => one.textContent).join()") == "4,5,6"
     window.click("#rule-void")
     window.wait("document.getElementById('rule-question').innerText.startsWith('Take the play out, round 1, table 2, board 5?')")
     assert window.value("document.getElementById('rule-question').innerText.includes('Then: taken out by the director.')")
     window.click("#no")
-    window.type("#rule-tricks", "")
-    window.click("#rule-set")
-    window.wait(f"{text_of('told')} === 'Each number has to be there, and in its range.'")
-    assert window.value("document.getElementById('rule-question').childNodes.length === 0")
+    window.wait("document.getElementById('rule-question').childNodes.length === 0")
     assert not window.complaints(), window.complaints()
 
 

@@ -184,9 +184,11 @@ def main():
                 found.append(f"asked: a claim moves the hand at {moved}")
             measure_all(windows[DIRECTOR], "director", scrolls=True)
             windows[DIRECTOR].click("#open-1")
-            windows[DIRECTOR].wait("document.getElementById('band')")
+            windows[DIRECTOR].wait("document.querySelector('#opened .diagram')")
+            measure_all(windows[DIRECTOR], "director-play", scrolls=True)
             windows[DIRECTOR].value("for (const one of document.querySelectorAll('#ruling details')) one.open = true")
             measure_all(windows[DIRECTOR], "director-opened", scrolls=True)
+            large_letters(windows[DIRECTOR], "director-opened")
             for part in ["boards", "standings", "evening", "tables"]:
                 windows[DIRECTOR].click(f"#tab-{part}")
                 measure_all(windows[DIRECTOR], f"director-{part}", scrolls=True)

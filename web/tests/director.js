@@ -58,16 +58,26 @@ function fill(page, values) {
   for (const [id, value] of Object.entries(values)) page.at(id).value = value;
 }
 
-// What is sent at a click, and at Yes where it asks; a look follows. A play that is ruled on is asked for before and after the
-// question.
+// What a page asks for that shows a play at table 2 and the other boards of its set; and the play at each look.
+const PLAY = `/boards ${KEY} 2 2 3`;
+const OPENS = [PLAY, `/boards ${KEY} 2 2 1`, `/boards ${KEY} 2 2 2`, `/boards ${KEY}`];
+
+// A page that shows the play at table 2.
+async function openedPlay(...words) {
+  const page = await opened(tables(AT_PLAY), ...words);
+  assert.deepStrictEqual(await page.click("open-2"), OPENS);
+  return page;
+}
+
+// What is sent at a click, and at Yes where it asks; a look follows. A play that is ruled on is asked for after the question.
 async function sent(page, id, question, asked = []) {
   const first = await page.click(id);
-  const looks = page.at("on-rulings").hidden ? LOOKS : RULED_LOOKS;
+  const looks = page.at("on-rulings").hidden ? LOOKS : [...LOOKS, PLAY, `/boards ${KEY}`];
   if (!question) {
     assert.deepStrictEqual(first.slice(1), looks);
     return first[0];
   }
-  assert.deepStrictEqual(first, asked);
+  assert.deepStrictEqual(first, []);
   assert.match(page.text("main"), question);
   const again = await page.click("yes");
   assert.deepStrictEqual(again.slice(0, asked.length), asked);
@@ -242,25 +252,42 @@ run({
   },
 
   "a ruling sends its play and what is ruled": async () => {
-    const page = await openedAt("rulings", tables(AT_PLAY));
-    fill(page, { "rule-round": "2", "rule-table": "2", "rule-board": "6", "rule-tricks": "9" });
+    const page = await openedPlay();
     const play = "round 2, table 2, board 6";
-    const asked = [`/boards ${KEY} 2 2 3`];
-    const became = "Now: 3NT E, one down \\(\\+100 for N\u2013S\\)\\. Then: 3 no trump, made \\(\u2212600 for N\u2013S\\)\\.North Cat, East Eve, South Dan, West Fay.";
-    assert.strictEqual(await sent(page, "rule-set", new RegExp(`Set declarer's tricks to 9, ${play}\\?${became}`), asked), `/lines TRICKS ${KEY} 2 2 3 9\n`);
+    const now = "Now: 3NT E, one down \\(\\+100 for N\u2013S\\)\\. Then: ";
+    const names = "North Cat, East Eve, South Dan, West Fay\\.";
+    fill(page, { "rule-tricks": "9" });
+    page.at("rule-tricks").parent.onchange();
+    assert.deepStrictEqual([page.text("tricks-then"), page.text("rule-set")], ["3 no trump, made (\u2212600 for N\u2013S)", "Set declarer's tricks to 9"]);
+    assert.strictEqual(await sent(page, "rule-set", new RegExp(`Set declarer's tricks to 9, ${play}\\?${now}3 no trump, made \\(\u2212600 for N\u2013S\\)\\.${names}NoYes, set`), [PLAY]), `/lines TRICKS ${KEY} 2 2 3 9\n`);
     assert.strictEqual(page.text("told"), `Set declarer's tricks to 9, ${play}: done.`);
+    assert.strictEqual(await sent(page, "rule-void", new RegExp(`Take the play out, ${play}\\?${now}taken out by the director\\.${names}NoYes, take out`), [PLAY]), `/lines VOID ${KEY} 2 2 3\n`);
+    assert.strictEqual(await sent(page, "rule-restore", new RegExp(`Take the ruling back, ${play}\\?${now}as it was played\\.${names}`), [PLAY]), `/lines RESTORE ${KEY} 2 2 3\n`);
+  },
+
+  "averages are chosen for each side by one tap, and awarded once both are": async () => {
+    const page = await openedPlay();
+    const pressed = () => ["NS", "EW"].map((side) => ["60", "50", "40"].filter((per) => page.at(`per-${side}-${per}`).getAttribute("aria-pressed") === "true").join());
+    assert.deepStrictEqual([pressed(), page.at("rule-average").disabled, page.at("per-NS-60").parent.getAttribute("aria-label")], [["", ""], true, "North and South, per cent"]);
     for (const [ns, ew] of [["60", "40"], ["40", "60"], ["50", "60"]]) {
-      fill(page, { "rule-ns": ns, "rule-ew": ew });
-      assert.strictEqual(await sent(page, "rule-average", new RegExp(`Award ${ns} and ${ew} per cent, ${play}\\?Now: 3NT E, one down \\(\\+100 for N\u2013S\\). Then: average, ${ns}\u00a0% and ${ew}\u00a0%\\.`), asked), `/lines ADJUST ${KEY} 2 2 3 ${ns} ${ew}\n`);
+      assert.deepStrictEqual([await page.click(`per-NS-${ns}`), await page.click(`per-EW-${ew}`)], [[], []]);
+      assert.deepStrictEqual([pressed(), page.text("rule-average")], [[ns, ew], `Award ${ns} and ${ew} per cent`]);
+      assert.strictEqual(await sent(page, "rule-average", new RegExp(`Award ${ns} and ${ew} per cent, round 2, table 2, board 6\\?Now: 3NT E, one down \\(\\+100 for N\u2013S\\). Then: average, ${ns}\u00a0% and ${ew}\u00a0%\\.`), [PLAY]), `/lines ADJUST ${KEY} 2 2 3 ${ns} ${ew}\n`);
     }
-    assert.strictEqual(await sent(page, "rule-void", new RegExp(`Take the play out, ${play}\\?Now: 3NT E, one down \\(\\+100 for N\u2013S\\). Then: taken out by the director.`), asked), `/lines VOID ${KEY} 2 2 3\n`);
-    assert.strictEqual(await sent(page, "rule-restore", new RegExp(`Take the ruling back, ${play}\\?Now: 3NT E, one down \\(\\+100 for N\u2013S\\). Then: as it was played.`), asked), `/lines RESTORE ${KEY} 2 2 3\n`);
-    fill(page, { "rule-board": "9" });
-    assert.deepStrictEqual(await page.click("rule-void"), []);
-    assert.strictEqual(page.text("told"), "In round 2 table 2 has boards 4 to 6.");
-    fill(page, { "rule-board": "" });
-    assert.deepStrictEqual(await page.click("rule-void"), []);
-    assert.match(page.text("told"), /has to be there/);
+  },
+
+  "what is chosen for a ruling stays while the play goes on, and not with another play": async () => {
+    let told = played({ RESULT: "-" });
+    const page = await opened(tables(AT_PLAY), "OK\n", (body) => (body.endsWith(" 2 2 3") ? told : played({ BOARD: "4 2 2 1 -" })));
+    await page.click("open-2");
+    assert.deepStrictEqual([page.at("rule-set").disabled, page.text("rule-set")], [true, "The play is not over yet"]);
+    await page.click("per-NS-60");
+    await page.click("back-more");
+    told = played({ RESULT: "-", CARDS: "S H3 H4 H5 H6 D2 D3" });
+    await page.look();
+    assert.deepStrictEqual([page.at("per-NS-60").getAttribute("aria-pressed"), page.text("back-count"), page.text("opened-back")], ["true", "1", "Take back South's 3 of diamonds"]);
+    await page.click("play-1");
+    assert.strictEqual(page.at("per-NS-60").getAttribute("aria-pressed"), "false");
   },
 
   "a question holds the focus, is closed by Escape, and gives the focus back": async () => {
@@ -276,12 +303,13 @@ run({
     assert.deepStrictEqual([page.at("no"), page.document.activeElement.id], [null, "end-round"]);
   },
 
-  "each ruling is folded together under its heading": async () => {
-    const page = await openedAt("rulings", tables(AT_PLAY));
+  "each ruling is folded together under its heading, but that which takes back": async () => {
+    const page = await openedPlay();
     const folded = page.at("ruling").querySelectorAll("details");
     assert.deepStrictEqual(folded.map((one) => [one.nodes[0].tag, one.nodes[0].textContent, one.open]), [
-      "Tricks", "Assign a score", "Average: 60, 50 or 40 per cent", "Out, and back", "What can still be won"].map((title) => ["summary", title, false]));
-    const within = ["rule-set", "rule-assign", "rule-average", "rule-void", "solve"];
+      "Take back calls or cards", "Set the tricks", "Assign a score", "Average: 60, 50 or 40 per cent", "Take the play out", "Take a ruling back", "What can still be won"]
+      .map((title, i) => ["summary", title, i === 0]));
+    const within = ["opened-back", "rule-set", "rule-assign", "rule-average", "rule-void", "rule-restore", "solve"];
     assert.ok(folded.every((one, i) => one.contains(page.at(within[i]))));
   },
 
@@ -300,35 +328,67 @@ run({
   },
 
   "a play that changed since it was looked at is not ruled on": async () => {
-    const page = await openedAt("rulings", tables(AT_PLAY));
-    fill(page, { "rule-round": "2", "rule-table": "2", "rule-board": "6" });
-    await page.click("rule-void");
+    const page = await openedPlay();
+    assert.deepStrictEqual(await page.click("rule-void"), []);
     page.answer = (where) => (where === "/boards" ? played({ RESULT: "AVERAGE 60 40" }) : "OK\n");
-    assert.deepStrictEqual(await page.click("yes"), [`/boards ${KEY} 2 2 3`]);
+    assert.deepStrictEqual(await page.click("yes"), [PLAY]);
     assert.match(page.text("told"), /has changed since/);
+    await page.click("rule-void");
     page.answer = (where) => (where === "/boards" ? null : "OK\n");
-    assert.deepStrictEqual(await page.click("rule-void"), [`/boards ${KEY} 2 2 3`]);
+    assert.deepStrictEqual(await page.click("yes"), [PLAY]);
     assert.strictEqual(page.text("told"), "No answer came.");
-    assert.strictEqual(page.at("yes"), null);
   },
 
   "a table is opened with its hands, its auction and its play": async () => {
-    const page = await opened(tables(AT_PLAY));
-    assert.deepStrictEqual(await page.click("open-2"), [`/boards ${KEY} 2 2 3`]);
+    const page = await openedPlay();
     const hearts = ["3", "4", "5", "6"].map((rank) => "\u2665\ufe0e" + rank);
     assert.deepStrictEqual(page.rows(page.at("tricks")).slice(1), [["1", "S", ...hearts, "E"], ["2", "E", "\u2666\ufe0e2", "", "", "", ""]]);
     assert.ok(page.named("Auction").textContent.includes("Dan") && !page.text("opened").includes("You"));
-    assert.deepStrictEqual(["rule-round", "rule-table", "rule-board"].map((id) => page.at(id).value), ["2", "2", "6"]);
+    assert.deepStrictEqual(["rule-round", "rule-table"].map((id) => page.at(id).value), ["2", "2"]);
+    assert.deepStrictEqual([page.text("below"), page.text("opened").slice(0, 14)], ["Ruling \u00b7 table 2, round 2", "3NT E, one dow"]);
     assert.ok(!page.at("on-rulings").hidden && page.at("on-tables").hidden);
-    assert.deepStrictEqual(await page.look(), [...LOOKS, `/boards ${KEY} 2 2 3`, `/boards ${KEY}`]);
-    assert.deepStrictEqual(await page.click("opened-4"), [`/boards ${KEY} 2 2 1`]);
+    assert.deepStrictEqual(await page.look(), [...LOOKS, PLAY, `/boards ${KEY}`]);
+    assert.strictEqual(page.document.activeElement.id, "play-3");
+    assert.deepStrictEqual(await page.click("play-1"), [`/boards ${KEY} 2 2 1`, `/boards ${KEY} 2 2 2`, PLAY, `/boards ${KEY}`]);
     await page.click("opened-close");
-    assert.strictEqual(page.at("tricks"), null);
+    assert.deepStrictEqual([page.at("tricks"), page.at("ruling").hidden, page.text("below")], [null, true, "Round 2 of 7"]);
     assert.deepStrictEqual(await page.click("tab-tables"), LOOKS);
     assert.ok(page.at("on-rulings").hidden);
     const idle = await opened(tables(AT_PLAY), "OK\n", "ERR 8 NotYet\n");
-    assert.deepStrictEqual(await idle.click("open-3"), [`/boards ${KEY} 2 3 1`]);
+    assert.deepStrictEqual(await idle.click("open-3"), [...[1, 2, 3].map((place) => `/boards ${KEY} 2 3 ${place}`), `/boards ${KEY}`]);
     assert.match(idle.text("told"), /round 2, table 3, board in place 1 of its set: that round has not begun/);
+    assert.ok(idle.at("ruling").hidden);
+  },
+
+  "the play is chosen by a round, a table, and a tile for each board": async () => {
+    const results = { 1: { RESULT: "ASSIGNED 4SX W 8 -500" }, 2: { CALLS: "1S PASS 2S PASS PASS DOUBLE".replace("DOUBLE", "X"), CARDS: "-", RESULT: "-" }, 3: { CALLS: "1H X 2H PASS 4H PASS PASS PASS", RESULT: "-" } };
+    const page = await openedAt("rulings", tables(AT_PLAY), "OK\n", (body) => {
+      const [, round, table, place] = body.split(" ").map(Number);
+      if (!place) return "OK\nOTHERS SHUT\n.\n";
+      return table === 3 ? "ERR 8 NotDealt\n" : played({ BOARD: `${3 * (table - 1) + place} ${round} ${table} ${place} -`, ...results[place] });
+    });
+    assert.deepStrictEqual(page.at("rule-round").nodes.map((option) => option.textContent), ["1", "2 (now)"]);
+    assert.deepStrictEqual([page.at("rule-table").value, page.at("plays"), page.at("ruling").hidden], ["", null, true]);
+    const choose = (id, value) => page.asks(() => { fill(page, { [id]: value }); page.at(id).parent.onchange(); });
+    assert.deepStrictEqual(await choose("rule-round", "1"), []);
+    const asks = (round, table, ...places) => [...places.map((place) => `/boards ${KEY} ${round} ${table} ${place}`), `/boards ${KEY}`];
+    assert.deepStrictEqual(await choose("rule-table", "2"), asks(1, 2, 1, 2, 3));
+    const tiles = () => page.at("plays").nodes.map((tile) => [tile.textContent, tile.getAttribute("aria-pressed")]);
+    const spade = "\u2660\ufe0e";
+    assert.deepStrictEqual(tiles(), [[`4 4${spade}X W (assigned), two down`, "true"], ["5 auction", "false"], ["6 4\u2665\ufe0e E, at play", "false"]]);
+    // In the round at play it is the board that the table has.
+    assert.deepStrictEqual(await choose("rule-round", "2"), asks(2, 2, 3, 1, 2));
+    assert.deepStrictEqual(await page.click("play-2"), asks(2, 2, 2, 1, 3));
+    assert.deepStrictEqual(tiles().map(([, pressed]) => pressed), ["false", "true", "false"]);
+    assert.deepStrictEqual(await choose("rule-table", "3"), asks(2, 3, 1, 2, 3));
+    assert.deepStrictEqual(tiles(), [["1st to deal", "true"], ["2nd to deal", "false"], ["3rd to deal", "false"]]);
+  },
+
+  "plays are chosen too once the session is closed": async () => {
+    const page = await openedAt("rulings", tables([], 8));
+    assert.deepStrictEqual([page.at("rule-round").value, page.at("rule-table").nodes.length], ["7", 13]);
+    fill(page, { "rule-round": "2", "rule-table": "2" });
+    assert.deepStrictEqual(await page.asks(() => page.at("rule-table").parent.onchange()), [`/boards ${KEY} 2 2 1`, `/boards ${KEY} 2 2 2`, PLAY, `/boards ${KEY}`]);
   },
 
   "rulings that stand are listed, and what others did is opened and shut": async () => {
@@ -346,26 +406,45 @@ run({
   },
 
   "the latest claim, card or call of a play is taken back, if it is still the latest": async () => {
-    for (const [other, latest, effect] of [
-      [{ CLAIM: "E 6" }, "East's claim of 6 tricks", "The claim falls, and play goes on."], [{}, "East's 2 of diamonds", "It goes back to the hand of East, and East is to play."],
-      [{ CARDS: "S H3 H4" }, "West's 4 of hearts", "It goes back to dummy, West, and East is to play."],
-      [{ CARDS: "-" }, "North's pass", "North is to call again."], [{ CARDS: "-", CALLS: "1C X" }, "South's double", "South is to call again."],
+    for (const [other, latest, effect, turn] of [
+      [{ CLAIM: "E 6" }, "East's claim of 6 tricks", "The claim falls, and play goes on.", "claim, play goes on"],
+      [{}, "East's 2 of diamonds", "It goes back to the hand of East, and East is to play.", "card, back to East's turn in trick 2"],
+      [{ CARDS: "S H3 H4" }, "West's 4 of hearts", "It goes back to dummy, West, and East is to play.", "card, back to West's turn in trick 1"],
+      [{ CARDS: "-" }, "North's pass", "North is to call again.", "call, back to North's call"], [{ CARDS: "-", CALLS: "1C X" }, "South's double", "South is to call again.", "call, back to South's call"],
     ]) {
-      const page = await opened(tables(AT_PLAY), "OK\n", played(other));
-      await page.click("open-2");
+      const page = await openedPlay("OK\n", played(other));
+      assert.deepStrictEqual([page.text("back-count"), page.text("back-to")], ["1", turn]);
       assert.deepStrictEqual(await page.click("opened-back"), []);
-      assert.ok(page.text("back-question").startsWith(
-        `Take back ${latest}, table 2, board 6?${effect} All four are told.North Cat, East Eve, South Dan, West Fay.`), page.text("back-question"));
-      assert.deepStrictEqual((await page.click("yes")).slice(0, 2), [`/boards ${KEY} 2 2 3`, `/correct BACK ${KEY} 2 2 3\n`]);
+      assert.ok(page.text("rule-question").startsWith(
+        `Take back ${latest}, table 2, board 6?${effect} All four are told.North Cat, East Eve, South Dan, West Fay.NoYes, take back`), page.text("rule-question"));
+      assert.deepStrictEqual((await page.click("yes")).slice(0, 2), [PLAY, `/correct BACK ${KEY} 2 2 3\n`]);
       assert.strictEqual(page.text("told"), `Take back ${latest}, table 2, board 6: done.`);
       await page.click("opened-back");
       page.answer = (where) => (where === "/boards" ? played({ ...other, RESULT: "VOID" }) : "OK\n");
-      assert.deepStrictEqual(await page.click("yes"), [`/boards ${KEY} 2 2 3`]);
+      assert.deepStrictEqual(await page.click("yes"), [PLAY]);
       assert.match(page.text("told"), /has changed since/);
     }
-    const none = await opened(tables(AT_PLAY), "OK\n", played({ CARDS: "-", CALLS: "" }));
-    await none.click("open-2");
-    assert.ok(none.at("opened-back").disabled);
+    const none = await openedPlay("OK\n", played({ CARDS: "-", CALLS: "" }));
+    assert.ok(["opened-back", "back-less", "back-more"].every((id) => none.at(id).disabled));
+    assert.strictEqual(none.text("opened-back"), "Nothing was done yet");
+  },
+
+  "several are taken back by a line each, and are struck before": async () => {
+    const page = await openedPlay("OK\nOK\nERR 50 NothingToTakeBack\n");
+    const struck = () => page.at("opened").querySelectorAll("td").filter((cell) => cell.className === "struck").map((cell) => cell.textContent);
+    assert.deepStrictEqual(struck(), ["\u2666\ufe0e2"]);
+    await page.click("back-more");
+    await page.click("back-more");
+    assert.deepStrictEqual([struck(), page.text("back-to")], [["\u2665\ufe0e5", "\u2665\ufe0e6", "\u2666\ufe0e2"], "cards, back to North's turn in trick 1"]);
+    await page.click("opened-back");
+    assert.ok(page.text("rule-question").startsWith("Take back 3 cards, table 2, board 6?North's 5 of hearts, East's 6 of hearts, East's 2 of diamonds. North is to play. All four are told."), page.text("rule-question"));
+    assert.deepStrictEqual((await page.click("yes")).slice(0, 2), [PLAY, `/correct ${`BACK ${KEY} 2 2 3\n`.repeat(3)}`]);
+    assert.strictEqual(page.text("told"), "Take back 3 cards, table 2, board 6: nothing was done yet that could be taken back.");
+    for (let i = 0; i < 3; i += 1) await page.click("back-more");
+    assert.deepStrictEqual([page.text("opened-back"), page.text("back-to")], ["Take back 5 cards and 1 call", "cards and call, back to North's call"]);
+    assert.deepStrictEqual(struck().slice(0, 2), ["Pass", "\u2665\ufe0e3"]);
+    await page.click("back-less");
+    assert.strictEqual(page.text("back-count"), "5");
   },
 
   "a claim is told as what came of it": async () => {
@@ -374,8 +453,7 @@ run({
       [{ CLAIM: "E 6" }, "East claimed 6 tricks, and it was agreed."],
       [{ CLAIM: "E 1", RESULT: "VOID" }, "East claimed 1 trick."],
     ]) {
-      const page = await opened(tables(AT_PLAY), "OK\n", played(other));
-      await page.click("open-2");
+      const page = await openedPlay("OK\n", played(other));
       assert.ok(page.document.root.textContent.includes(words), words);
     }
   },
@@ -383,8 +461,8 @@ run({
   "a slip that a table calls for is taken back": async () => {
     const page = await opened(tables(AT_PLAY), "OK\n", played(), "OK\nNOW 9 14400\nCALL 2 5 2 Dan I did not mean my last call or card\nCALL 1 7 8 Fay Claim\n.\n");
     assert.strictEqual(page.at("grant-1"), null);
-    assert.deepStrictEqual(await page.click("grant-2"), [`/boards ${KEY} 2 2 3`]);
-    assert.match(page.text("back-question"), /^Take back East's 2 of diamonds, table 2, board 6\?/);
+    assert.deepStrictEqual(await page.click("grant-2"), OPENS);
+    assert.match(page.text("rule-question"), /^Take back East's 2 of diamonds, table 2, board 6\?/);
     const then = await page.click("yes");
     const granted = then.indexOf(`/correct BACK ${KEY} 2 2 3\n`);
     assert.ok(granted >= 0 && then.indexOf(`/desk ${KEY} ANSWERED 2`) > granted, then.join());
@@ -395,45 +473,37 @@ run({
   },
 
   "a score is assigned, and a deal is taken back": async () => {
-    const page = await openedAt("rulings", tables(AT_PLAY));
-    fill(page, { "rule-round": "2", "rule-table": "2", "rule-board": "6", "assign-bid": "4S", "assign-doubled": "X", "assign-declarer": "W", "assign-tricks": "8" });
-    const asked = [`/boards ${KEY} 2 2 3`];
+    const page = await openedPlay();
+    assert.deepStrictEqual(["assign-bid", "assign-doubled", "assign-declarer", "assign-tricks"].map((id) => page.at(id).value), ["3NT", "", "E", "8"]);
+    fill(page, { "assign-bid": "4S", "assign-doubled": "X", "assign-declarer": "W" });
+    page.at("assign-bid").parent.parent.onchange();
+    assert.strictEqual(page.text("rule-assign"), "Assign +500 for N\u2013S");
     const became = "Now: 3NT E, one down \\(\\+100 for N\u2013S\\). Then: 4 spades doubled by West, two down \\(\\+500 for N\u2013S\\).";
-    assert.strictEqual(await sent(page, "rule-assign", new RegExp(`Assign a score, round 2, table 2, board 6\\?${became}`), asked), `/correct ASSIGN ${KEY} 2 2 3 4SX W 8\n`);
+    assert.strictEqual(await sent(page, "rule-assign", new RegExp(`Assign a score, round 2, table 2, board 6\\?${became}`), [PLAY]), `/correct ASSIGN ${KEY} 2 2 3 4SX W 8\n`);
     await page.click("tab-boards");
     fill(page, { "undeal-board": "7" });
     assert.strictEqual(await sent(page, "undeal", /Take back the deal of board 7\?/), `/correct UNDEAL ${KEY} 7\n`);
   },
 
-  "averages are chosen for each side": async () => {
-    const page = await opened(tables(AT_PLAY));
-    const label = (id) => page.document.root.all().find((element) => element.tag === "label" && element.getAttribute("for") === id).textContent;
-    assert.deepStrictEqual([label("rule-ns"), label("rule-ew")], ["North and South, per cent", "East and West, per cent"]);
-    const options = (id) => page.at(id).nodes.map((option) => [option.value, option.textContent.slice(0, 2)]);
-    for (const id of ["rule-ns", "rule-ew"]) assert.deepStrictEqual(options(id), [["60", "60"], ["50", "50"], ["40", "40"]]);
+  "a play without a contract is assigned one": async () => {
+    const page = await openedPlay("OK\n", played({ CALLS: "", CARDS: "-", RESULT: "-" }));
+    fill(page, { "assign-tricks": "7" });
+    assert.strictEqual(await sent(page, "rule-assign", /Now: at play\. Then: 1 club by North, made \(\+70 for N\u2013S\)\./, [PLAY]), `/correct ASSIGN ${KEY} 2 2 3 1C N 7\n`);
   },
 
   "each refusal has its sentence": async () => {
     for (const [name, said] of Object.entries(SAID)) {
-      const page = await openedAt("rulings", tables(AT_PLAY), `ERR 5 ${name}\n`);
-      fill(page, { "rule-round": "2", "rule-table": "2", "rule-board": "6" });
-      await sent(page, "rule-void", /Take the play out/, [`/boards ${KEY} 2 2 3`]);
+      const page = await openedPlay(`ERR 5 ${name}\n`);
+      await sent(page, "rule-void", /Take the play out/, [PLAY]);
       assert.match(page.text("told"), said, name);
     }
   },
 
-  "a board that was not played at that table is not ruled on, also where the table was not seen": async () => {
-    const page = await openedAt("rulings", tables(AT_PLAY), "OK\n", played({ BOARD: "13 1 3 1 -" }));
-    fill(page, { "rule-round": "1", "rule-table": "3", "rule-board": "1" });
-    assert.deepStrictEqual(await page.click("rule-void"), [`/boards ${KEY} 1 3 1`]);
-    assert.match(page.text("told"), /13 to 15/);
-    assert.strictEqual(page.at("yes"), null);
-  },
-
   "an ending is solved for both sides": async () => {
-    const page = await openedAt("rulings", tables(AT_PLAY), "OK 6 0\n");
-    fill(page, { "rule-round": "2", "rule-table": "1", "rule-board": "5", "solve-tricks": "7" });
-    assert.deepStrictEqual(await page.click("solve"), [`/lines SOLVE ${KEY} 2 1 2 28\n`]);
+    const page = await openedPlay("OK 6 0\n");
+    assert.strictEqual(page.at("solve-tricks").value, "7");
+    fill(page, { "solve-tricks": "8" });
+    assert.deepStrictEqual(await page.click("solve"), [`/lines SOLVE ${KEY} 2 2 3 32\n`]);
     assert.strictEqual(page.text("solved"), "Of the tricks left North and South can win 6, and East and West 0.");
   },
 
@@ -470,7 +540,8 @@ run({
 
   "the disk is named, and is nothing that is waited with": async () => {
     const page = await opened(tables(AT_PLAY), "OK\n", played(), "OK\nNOW 0 14400\nDISK tonight.disk\nNOTICE Tea\n.\n");
-    assert.match(page.text("serving"), /^Disk: tonight\.disk\. The pages close at /);
+    assert.match(page.text("serving"), /^The pages close at /);
+    assert.match(page.text("disks"), /^Disktonight\.diskIn orderEach action is on it before it is answered\./);
     assert.deepStrictEqual(page.waits.map((wait) => wait.body), [`${KEY}\n${tables(AT_PLAY)}NOTICE Tea\n`]);
   },
 
@@ -478,6 +549,9 @@ run({
     const named = (name) => opened(tables(AT_PLAY), "OK\n", played(), `OK\nNOW 0 14400\nDISK ${name}\n.\n`);
     assert.strictEqual((await named("a.disk and b.disk")).at("lost-disk"), null);
     assert.strictEqual((await named("b.disk alone, a.disk is lost")).text("lost-disk"), "A disk has failed: b.disk alone, a.disk is lost. The evening goes on.");
+    const tiles = async (name) => (await named(name)).at("disks").nodes[0].nodes.map((tile) => tile.nodes.slice(0, 3).map((node) => node.textContent).join(" "));
+    assert.deepStrictEqual(await tiles("a.disk and b.disk"), ["First disk a.disk In order", "Second disk b.disk In order"]);
+    assert.deepStrictEqual(await tiles("b.disk alone, a.disk is lost"), ["Disk b.disk In order", "Disk a.disk Lost"]);
   },
 
   "each field stands under its heading": async () => {

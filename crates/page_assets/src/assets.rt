@@ -168,6 +168,8 @@ body:not(.at-table) main { max-width: 64rem; margin: 0 auto; padding: .75rem; }
 body:not(.at-table) { display: flex; flex-direction: column; }
 body:not(.at-table) main { order: 2; width: 100%; }
 body:not(.at-table) #status { order: 1; align-self: center; margin: .75rem .75rem 0; font-weight: bold; }
+/* That no answer comes moves nothing on the director's page. */
+body.director:not(.at-table) #status.lost { position: fixed; inset: auto 0 .75rem; z-index: 5; width: fit-content; margin: 0 auto; color: var(--note-ink); background: var(--note); }
 .panel { max-width: 40rem; margin: 0 auto .75rem; padding: .75rem 1rem; background: var(--panel); border: 1px solid var(--line); border-radius: .75rem; }
 .panel h2:first-child { margin-top: 0; }
 .large { font-size: 1.875rem; font-weight: bold; line-height: 1.2; margin: .2rem 0; }
@@ -187,6 +189,7 @@ body.login main { max-width: 28rem; margin: auto; }
 .login .panel .large { margin: 0 0 .75rem; font-size: 1.625rem; }
 .login .second { font-size: .875rem; }
 .login-more { margin-top: 1rem; }
+.login a.send { display: grid; place-items: center; min-height: 3.25rem; border-radius: .5rem; font-size: 1.125rem; font-weight: bold; text-decoration: none; }
 #colours::before { content: "Aa"; margin-right: .6rem; font-weight: normal; }
 #wrong { margin: .4rem 0; padding-left: 1.5rem; color: var(--bad); font-weight: bold; }
 #wrong:not(:empty)::before { content: "\2715"; float: left; margin-left: -1.4rem; }
@@ -242,6 +245,14 @@ body.director main { max-width: 84rem; }
 #clock-runs b { margin-right: auto; font-size: 2.25rem; line-height: 1; }
 #clock-sets input { width: 4rem; }
 #round p, #telling .row { margin: .2rem 0; }
+.disks { display: grid; grid-template-columns: repeat(auto-fit, minmax(min(100%, 14rem), 1fr)); gap: .6rem; margin: .5rem 0; padding: 0; list-style: none; }
+.disks li { display: grid; padding: .5rem .75rem; border: 1px solid var(--line); border-left: .5rem solid var(--good); border-radius: .75rem; overflow-wrap: anywhere; font-size: .875rem; }
+.disks b { font-size: 1rem; }
+.disks .large { font-size: 1.125rem; }
+.disks .large::before { content: "\2713\a0"; color: var(--good); }
+.disks .is-lost { border-color: var(--vul); }
+.disks .is-lost .large::before { content: "\2715\a0"; color: var(--bad); }
+#disks ol { margin: .2rem 0; padding-left: 1.3rem; }
 .question:empty { display: none; }
 .question > p:last-of-type:not(:only-of-type) { padding: 0; font-weight: normal; background: none; }
 #tell-text { flex: 1; width: auto; min-width: 0; }
@@ -259,13 +270,34 @@ body.director main { max-width: 84rem; }
 #deal-file:focus-visible + .row #choose-file { outline: 3px solid var(--blue); outline-offset: 2px; }
 #file-has { font-size: .875rem; overflow-wrap: anywhere; }
 #deal, #shuffle { width: 100%; min-height: 3.25rem; margin-top: .4rem; }
+#on-rulings { display: grid; grid-template: "c" auto "h" auto "r" auto "p" auto "s" auto / minmax(0, 1fr); gap: 0 .75rem; align-items: start; }
 #ruling details { margin: 0; padding: 0; border-color: var(--line); }
 #ruling details[open] { padding-bottom: .5rem; }
 #ruling summary { min-height: 2.75rem; padding: .6rem 0; }
 .director .send { width: auto; }
 #end-round { width: 100%; min-height: 3.25rem; }
-#choosing .row { margin: 0; }
-#choosing input { width: 4.5rem; }
+.director #choosing { display: flex; flex-wrap: wrap; gap: .5rem .75rem; align-items: center; padding: .5rem .75rem; }
+#choosing p { margin: 0; }
+#choosing .field { flex-wrap: nowrap; }
+#plays { display: grid; order: 1; flex: 1 1 100%; grid-template-columns: repeat(3, minmax(0, 1fr)); gap: .4rem; }
+.tile { padding: .2rem .3rem; font-weight: normal; overflow-wrap: anywhere; }
+.tile b { font-size: 1.125rem; }
+.tile .contract { font-size: 1rem; }
+.tile > span { display: block; font-size: .875rem; line-height: 1.2; }
+:is(.tile, .per button)[aria-pressed=true] { color: var(--page); background: var(--ink); }
+.tile[aria-pressed=true] .suit { color: inherit; }
+#opened-close { margin-left: auto; }
+#opened h2::first-letter { text-transform: uppercase; }
+.steps .large { min-width: 2.5rem; margin: 0; text-align: center; }
+.steps button { width: 3.25rem; min-height: 3.25rem; font-size: 1.5rem; line-height: 1; }
+#back-to { flex: 1 1 8rem; margin: 0 0 0 .4rem; }
+.action, #opened-back { width: 100%; min-height: 3.25rem; font-size: 1.0625rem; }
+#opened-back:enabled { color: var(--on-blue); background: var(--blue); border-color: var(--blue); }
+.director .action.send { width: 100%; }
+.per { display: grid; grid-template-columns: 2.5rem repeat(3, minmax(0, 1fr)); gap: .35rem; align-items: center; margin-bottom: .35rem; }
+.per button { padding: .2rem; font-size: .9375rem; }
+#ruling .field label { position: absolute; width: 1px; min-height: 0; height: 1px; overflow: hidden; clip-path: inset(50%); }
+.part td.struck { outline: 2px dashed var(--bad); outline-offset: -2px; text-decoration: line-through; }
 .director #tables { display: block; background: none; }
 .director #tables tbody { display: grid; grid-template-columns: repeat(auto-fill, minmax(min(100%, 18rem), 1fr)); gap: .6rem; }
 .director #tables tr {
@@ -296,7 +328,7 @@ body.director main { max-width: 84rem; }
 .director #tables .slow { border-color: var(--wait); }
 .director #tables .slow td:nth-child(7) { color: var(--gold-ink); background: var(--gold); }
 .director #tables .slow td:nth-child(6) { color: var(--ink); font-weight: bold; }
-.director #tables .called { border-color: var(--vul); }
+.director #tables .called { border-color: var(--vul); box-shadow: 0 0 0 2px var(--vul); }
 .director #tables .called td:nth-child(7) { color: #fff; background: var(--vul); }
 .director #tables .called td:nth-child(7)::before { content: "!\a0"; }
 .director #tables .done td:nth-child(7)::before { content: "\2713\a0"; }
@@ -332,26 +364,25 @@ body.director main { max-width: 84rem; }
   #publishing { grid-area: p; align-self: stretch; }
   #on-evening:has(#results:not(:empty)) { grid-template: "k s" auto "p p" auto "l l" auto / 1fr 1fr; }
   #lines { grid-area: l; }
-  #on-rulings { display: grid; grid-template: "c c" auto "o r" auto "s r" 1fr / minmax(0, 1fr) 26rem; gap: 0 .75rem; align-items: start; }
-  #choosing { grid-area: c; }
-  #opened { grid-area: o; }
-  #ruling { grid-area: r; }
-  #standing { grid-area: s; }
-  .director.on-rulings #opened .parts { grid-template: "h" auto "p" auto / 1fr; }
+  #on-rulings { grid-template: "c c" auto "h r" auto "p r" auto "s r" 1fr / minmax(0, 1fr) 26rem; }
   #on-standings #rankings { display: grid; grid-template: auto auto auto / 1fr 1fr; gap: 0 1.5rem; align-items: start; }
   #on-standings #rankings > p { grid-column: 1 / -1; }
   #on-standings #rankings > :nth-child(n+4) { grid-column: 2; }
   #on-standings #rankings > :nth-child(2), #on-standings #rankings > :nth-child(4) { grid-row: 2; }
   #on-standings #rankings > :nth-child(3), #on-standings #rankings > :nth-child(5) { grid-row: 3; }
 }
-@media (min-width: 80em) { .director.on-rulings #opened .parts { grid-template: "h p" auto / 1fr 1fr; } }
-#opened:empty { display: none; }
-#opened { padding: .5rem .75rem; margin-bottom: .75rem; border: 2px solid var(--gold); border-radius: .75rem; background: var(--page); }
-#opened h2 { margin: 0 .5rem 0 0; }
-#opened .panel { width: 100%; max-width: none; margin: 0 0 .5rem; }
+@media (min-width: 80em) { #on-rulings { grid-template: "c c c" auto "h p r" auto "s s r" 1fr / minmax(0, 5fr) minmax(0, 4fr) 26rem; } }
+@media (min-width: 40em) {
+  #plays { order: 0; flex: 1 1 24rem; }
+  .tile > span { display: inline; }
+}
+#opened { display: contents; }
+#opened .hands { grid-area: h; }
+#opened .play { grid-area: p; }
 #opened .part { display: block; }
-#opened .row [aria-pressed=true] { color: var(--page); background: var(--ink); }
-#opened-close { margin-left: auto; }
+#choosing { grid-area: c; }
+#ruling { grid-area: r; }
+#standing { grid-area: s; }
 #rankings table { width: 100%; }
 #rankings th, #rankings td { border: 0; border-bottom: 1px solid var(--line); padding: .25rem .2rem; text-align: right; font-variant-numeric: tabular-nums; }
 #rankings th { font-size: .8125rem; }
@@ -402,7 +433,7 @@ summary { cursor: pointer; min-height: 2.2rem; font-weight: bold; }
 .tally i { width: .35rem; height: .35rem; border-radius: 50%; background: var(--bar-second); opacity: .7; }
 .tally .ours { width: .4rem; height: .85rem; border-radius: 1px; background: #fff; opacity: 1; }
 .tally .theirs { width: .85rem; height: .4rem; border-radius: 1px; background: var(--felt-red); opacity: 1; }
-.score { font-weight: bold; }
+.score { font-weight: bold; white-space: nowrap; }
 #side { display: none; grid-area: side; min-width: 0; color: var(--ink); background: var(--panel); }
 #side h2 { margin: 0 0 .2rem; font-size: .875rem; font-weight: normal; color: var(--second); }
 .side-last p { display: grid; grid-template-columns: repeat(4, auto); justify-content: space-between; margin: 0; }
@@ -784,6 +815,7 @@ td.marked { outline: 2px dashed var(--blue); outline-offset: -2px; }
 .boards #main { display: flex; flex-direction: column; flex: 1; max-width: 84rem; padding-bottom: 0; }
 .wide-panel { max-width: none; }
 .boards .panel { width: 100%; max-width: none; margin: 0 0 .75rem; }
+.boards:not(.over) #onward::after { order: -1; transform: scaleX(-1); }
 .tiles ol { display: flex; flex-wrap: wrap; gap: .35rem; margin: 0; padding: 0; list-style: none; }
 .tiles p { margin: .5rem 0 .25rem; }
 .tiles li { padding: .2rem .5rem; border: 1px solid var(--edge); border-radius: .5rem; font-size: .875rem; font-variant-numeric: tabular-nums; }
@@ -871,7 +903,6 @@ td.marked { outline: 2px dashed var(--blue); outline-offset: -2px; }
 }
 @media (min-width: 48em) and (min-height: 30.01em) {
   #parts { display: none; }
-  #opened .parts { grid-template: "h p" auto / 1fr 1fr; }
   .parts { display: grid; grid-template: "h s" auto "h p" 1fr / 1fr 1fr; gap: 0 .75rem; align-items: start; }
   .tiles { display: none; }
   .hands { grid-area: h; }
@@ -916,6 +947,20 @@ td.marked { outline: 2px dashed var(--blue); outline-offset: -2px; }
   .suit-line > :not(.suit) { margin-right: .14rem; }
   .over #dock.onward { margin: auto -.5rem 0; }
 }
+/* Many numbers of a claim stand in even rows. */
+@media (max-width: 39.99em) and (orientation: portrait) {
+  .numbers:has(> :nth-child(8)) { grid-template-columns: repeat(4, 1fr); }
+  .numbers:has(> :nth-child(9)) { grid-template-columns: repeat(5, 1fr); }
+  .numbers:has(> :nth-child(11)) { grid-template-columns: repeat(6, 1fr); }
+}
+/* The smallest screens. */
+@media (max-width: 21em) {
+  :is(.boards, .final) #card tr { grid-template-columns: 2.75rem minmax(3rem, 1fr) 1.9rem 1.2rem 2.9rem 3.6rem; font-size: .875rem; }
+  #strip { gap: .25rem; padding: .1rem .5rem; }
+  #opened .diagram { --tw: 1.4rem; --th: 2rem; gap: .1rem .25rem; }
+  #opened :is(.of-middle, .board-picture) { min-width: 5rem; width: 5rem; }
+  .steps { flex-wrap: nowrap; }
+}
 /* Large letters on a small screen: one below the other. */
 @media (max-width: 17em) {
   .at-table { --tw: 2rem; --th: 2.75rem; --cw: 2.6rem; --fw: 2.6rem; --ch: 3.25rem; }
@@ -949,8 +994,10 @@ td.marked { outline: 2px dashed var(--blue); outline-offset: -2px; }
   :is(.sides, #rankings) tr :is(th, td):nth-child(2) { grid-area: p; }
   :is(.sides, #rankings) tr .who { grid-area: n; border-bottom: 1px solid var(--line); overflow-wrap: anywhere; }
   :is(.sides, #rankings) thead { display: none; }
-  #opened .row { display: grid; }
-  .director :is(.field, .row, #opened) { min-width: 0; max-width: 100%; }
+  .director :is(.field, .row) { min-width: 0; max-width: 100%; }
+  .per, #plays { grid-template-columns: minmax(0, 1fr); }
+  .steps { flex-wrap: wrap; }
+  #back-to { flex-basis: 100%; margin: 0; }
   #opened .diagram { grid-template: "top" auto "left" auto "middle" auto "right" auto "bottom" auto / minmax(0, 1fr); }
   #opened .of-top, #opened .of-bottom { max-width: none; }
   .director #tables tr { grid-template: "n" auto "b" auto "s" auto "w" auto "p" auto "q" auto "m" auto "o" auto / minmax(0, 1fr); justify-items: start; }
@@ -972,7 +1019,7 @@ td.marked { outline: 2px dashed var(--blue); outline-offset: -2px; }
   #options > fieldset { grid-row: 2; }
   #choices .row { flex-wrap: nowrap; margin: 0; }
   body.login main { max-width: 46rem; }
-  .login .panel { display: grid; grid-template: "head key" auto "more key" 1fr / 1fr 1fr; gap: 0 1.5rem; }
+  .login .panel { display: grid; grid-template: "head key" auto "more key" 1fr / 1fr 1fr; gap: 0 1.5rem; max-width: none; }
   .login-key { grid-area: key; }
   .login-more { align-self: end; margin: 0; }
 }
@@ -1294,7 +1341,17 @@ const TEXTS = {
   pagesEnd: (minutes, isDirector) => (minutes === 1 ? "In a minute" : "In " + minutes + " minutes") + " the pages close. What was played is kept"
     + (isDirector ? "; start the command again to go on." : "."),
   diskLost: (which) => "A disk has failed: " + which + ". The evening goes on.",
-  serving: (disk, time) => (disk ? "Disk: " + disk + ". " : "") + "The pages close at " + time + ".",
+  serving: (time) => "The pages close at " + time + ".",
+  oneDisk: "Disk",
+  diskOf: (index) => ["First disk", "Second disk"][index],
+  diskInOrder: "In order",
+  diskIsLost: "Lost",
+  writtenFirst: "Each action is on it before it is answered.",
+  writtenNoMore: "Nothing more is written to it.",
+  ifDiskFails: "If a disk fails",
+  diskSteps: (count, isLost) => (isLost ? ["Play on to the end: the other disk has all.", "Then copy the good disk anew."]
+    : count > 1 ? ["The evening goes on from the other one, and this page says so.", "If the computer dies, start the command on another one with the disk that is left: what was seen answered is there."]
+      : ["Every page says so, and nobody plays on.", "Free the device, and start the same command again: what was seen answered is there."]),
   clockLeft: "left",
   minutesLeft: (minutes) => (minutes === 1 ? "One minute left" : minutes + " minutes left") + " in this round",
   claimSays: "What you say with it (may be left out)",
@@ -1322,7 +1379,8 @@ const TEXTS = {
   doneWord: "done",
   becameOf: (what, outcome) => what + ": " + outcome + ".",
   asks: (what) => what + "?",
-  yesTo: (question) => "Yes: " + question,
+  yesDo: (verb) => TEXTS.yes + ", " + verb,
+  verbs: { end: "end it", shuffle: "shuffle", deal: "deal", back: "take back", set: "set", assign: "assign", award: "award", out: "take out" },
   idle: { NotDealt: "Waits for its deal", NotCurrent: "Has done its boards", SitsOut: "Sits out" },
   progress: (playing, made, seat) => (playing ? "Trick " + (Math.floor(made / 4) + 1) + ", " + seat + " to play" : "Auction, " + seat + " to call"),
   stillFor: (minutes) => (minutes === 0 ? "moved just now" : "still for " + minutes + " min"),
@@ -1375,7 +1433,6 @@ const TEXTS = {
   undealHelp: "As long as nobody has called on it.",
   deal: "Deal these",
   fillIn: "Each number has to be there, and in its range.",
-  tableHas: (round, table, first, last) => "In round " + round + " table " + table + " has " + (first === last ? "board " + first : "boards " + first + " to " + last) + ".",
   playOf: (round, table, board) => "round " + round + ", table " + table + ", " + board,
   boardNumber: (board) => "board " + board,
   boardInPlace: (place) => "board in place " + place + " of its set",
@@ -1383,20 +1440,39 @@ const TEXTS = {
   tableField: "Table",
   boardField: "Board",
   rule: "Rule",
-  openPlay: "Show this play",
-  per: [["60", "60: in no way at fault"], ["50", "50: partly at fault"], ["40", "40: directly at fault"]],
+  openPlay: "Which play",
+  rulingAt: (table, round) => "Ruling \u00b7 table " + table + ", round " + round,
+  roundNow: (round, isNow) => round + (isNow ? " (now)" : ""),
+  choose: "\u2013",
+  chooseTable: "Choose a table here, or open one from its card.",
+  placeOf: (index) => ["1st", "2nd", "3rd"][index] || index + 1 + "th",
+  inAuction: "auction",
+  notBegun: "not begun",
+  tableNow: "The table now",
+  onlyDirector: "Only the director sees all hands.",
+  takeBackDone: "Take back calls or cards",
+  less: "One less",
+  more: "One more",
+  someDeeds: (calls, cards, claims) => [claims && "the claim", cards && (cards === 1 ? "1 card" : cards + " cards"), calls && (calls === 1 ? "1 call" : calls + " calls")].filter(Boolean).join(" and "),
+  backTo: (calls, cards, claims, seat, trick) => [claims && "claim", cards && (cards === 1 ? "card" : "cards"), calls && (calls === 1 ? "call" : "calls")].filter(Boolean).join(" and ")
+    + (calls ? ", back to " + seat + "'s call" : cards ? ", back to " + seat + "'s turn in trick " + (trick + 1) : ", play goes on"),
+  goBack: (deeds) => deeds.join(", ") + ". ",
+  playsThen: (seat, fromDummy) => seat + " is to play" + (fromDummy ? " from dummy" : "") + ". All four are told.",
+  northSouth: "N\u2013S",
+  eastWest: "E\u2013W",
+  per: [["60", "60 no fault"], ["50", "50 partly"], ["40", "40 at fault"]],
   setTricksTo: (tricks) => "Set declarer's tricks to " + tricks,
   award: (ns, ew) => "Award " + ns + " and " + ew + " per cent",
   takeOut: "Take the play out",
   takeBack: "Take the ruling back",
   asPlayed: "as it was played",
   takeBackButton: "Take a ruling back",
+  notOver: "The play is not over yet",
+  assignIt: (score) => "Assign " + score + " for N\u2013S",
   declarerField: "Declarer",
   declarersTricks: "Declarer's tricks",
-  setTheTricks: "Tricks",
-  setTricks: "Set the tricks",
+  setTheTricks: "Set the tricks",
   averages: "Average: 60, 50 or 40 per cent",
-  outAndBack: "Out, and back",
   northSouthPer: "North and South, per cent",
   eastWestPer: "East and West, per cent",
   awardAverages: "Award averages",
@@ -1415,7 +1491,7 @@ const TEXTS = {
   northSouthScore: (score) => " (" + score + " for N\u2013S)",
   claimBy: (seat, tricks) => seat + "'s claim of " + tricks + (tricks === "1" ? " trick" : " tricks"),
   doneBy: (seat, what) => seat + "'s " + what,
-  nothingDone: "Nothing to take back",
+  nothingDone: "Nothing was done yet",
   undeal: "Take the deal back",
   undealOf: (board) => "Take back the deal of board " + board,
   assignScore: "Assign a score",
@@ -1428,6 +1504,7 @@ const TEXTS = {
     ASSIGNED: ([contract, declarer, tricks]) => contract + " by " + declarer + ", " + tricks + " tricks, assigned" },
   solving: "What can still be won",
   afterTricks: "After so many tricks",
+  after: (tricks) => "after " + tricks,
   solve: "Solve",
   solved: (ns, ew) => "Of the tricks left North and South can win " + ns + ", and East and West " + ew + ".",
   notSolved: (why) => "No answer: " + why + ".",
@@ -2264,6 +2341,8 @@ function cardOnTable(view, { seat, card }, won) {
     aria_label: SEAT_NAMES[seat] + ": " + cardName(card) }, ...cardNodes(card));
 }
 
+const dueOnTable = (view, seat) => make("span", { className: "due " + placeOf(view, seat), aria_hidden: "true" }, seat);
+
 // The trick on the table: the one at play, or the last whole one until the next card is led.
 function trickNode(view) {
   const sent = onWay.startsWith("card-") ? cardOnTable(view, { seat: view.turn, card: onWay.slice(5) }, false) : null;
@@ -2274,7 +2353,7 @@ function trickNode(view) {
   if (sent) sent.className += " sent";
   if (sent) node.append(sent);
   const due = whole || !onTurn(view) ? null : !sent ? view.turn : trick.length < 3 ? nextTo(view.turn) : null;
-  if (due) node.append(make("span", { className: "due " + placeOf(view, due), aria_hidden: "true" }, due));
+  if (due) node.append(dueOnTable(view, due));
   return node;
 }
 
@@ -3057,6 +3136,8 @@ function trickPicture(board, own, step) {
   const node = make("div", { className: "trick", role: "group", aria_label: TEXTS.trick(trick + 1) });
   const cards = board.cards.slice(0, step).filter((one) => one.trick === trick);
   node.append(...cards.map((one) => cardOnTable(view, one, cards.length === 4 && one.winner === one.seat)));
+  // Whose card is due is told to the director alone.
+  if (board.result.none && step === board.cards.length && cards.length < 4) node.append(dueOnTable(view, nextTo(board.cards[step - 1].seat)));
   return node;
 }
 
@@ -3068,7 +3149,7 @@ function diagramNodes(board, own, step) {
 }
 
 // The four hands, and the play to step through. Its own clicks move it, and draw nothing else anew.
-function steppedNode(board, own, step, stepped) {
+function steppedNode(board, own, step, stepped, ...heads) {
   const diagram = make("div", { className: "diagram" });
   const words = make("p", { className: "stepped", role: "status" });
   const slider = make("input",
@@ -3089,7 +3170,7 @@ function steppedNode(board, own, step, stepped) {
     for (const row of table ? table.querySelectorAll("tr") : []) row.className = trickClass(board, now, row.id);
     stepped(now);
   };
-  const node = make("section", { className: "panel part hands", aria_label: TEXTS.hands }, diagram);
+  const node = make("section", { className: "panel part hands", aria_label: TEXTS.hands }, ...heads, diagram);
   if (board.cards.length) node.append(make("div", { className: "stepper" }, buttons[0], buttons[1], words, buttons[2], buttons[3]), slider);
   go(step);
   return node;
@@ -3517,13 +3598,12 @@ let tab = "tables";
 
 // When each table's line was first seen as it is.
 const since = new Map();
-// The first board of each table's set, by round and table, where it was seen.
-const firstBoards = new Map();
 let boardsOfSet = 1;
 let boardsOfAll = MOST_BOARDS;
 // Whether lines are out.
 let ordered = false;
-// The names of pairs; the play that is looked at, as round, table and place in its set, and what was told of it.
+// The names of pairs; the play that is looked at, or null: its round, table and place in its set, what was told of it, and how it
+// is looked at.
 let pairNames = new Map();
 let opened = null;
 // The tables as they were told last.
@@ -3541,14 +3621,14 @@ function tell(text) {
 
 // Takes down a question that stands.
 function closeQuestions() {
-  for (const id of ["end-question", "rule-question", "deal-question", "back-question"]) if (at(id)) at(id).replaceChildren();
+  for (const id of ["end-question", "rule-question", "deal-question"]) if (at(id)) at(id).replaceChildren();
 }
 
 // A place for questions, which is a sheet over the page while one stands.
 const questionBox = (id) => make("div", { id, className: "sheet question", role: "dialog", aria_modal: "true", onkeydown: holdTab });
 
-// Asks before it acts; no other question stands beside it, and the focus goes back to what raised it.
-function confirmFirst(box, question, act, ...more) {
+// Asks before it acts; no other question stands beside it, and the focus goes back to what raised it. A yes has its verb.
+function confirmFirst(box, question, verb, act, ...more) {
   const raised = document.activeElement;
   const close = () => {
     closeQuestions();
@@ -3559,7 +3639,7 @@ function confirmFirst(box, question, act, ...more) {
   box.setAttribute("aria-label", question);
   box.replaceChildren(make("h2", null, question), ...more.map((words) => make("p", null, ...[].concat(words))),
     make("div", { className: "row" },
-      button(TEXTS.no, "", "no", true, close), button(TEXTS.yes, TEXTS.yesTo(question), "yes", true, () => { close(); act(); })));
+      button(TEXTS.no, "", "no", true, close), button(TEXTS.yesDo(verb), "", "yes", true, () => { close(); act(); })));
   at("yes").className = "send";
   at("no").focus();
 }
@@ -3581,12 +3661,16 @@ async function order(lines, isCorrection = false) {
   return reply;
 }
 
-async function doOne(line, what, isCorrection = false) {
-  const reply = await order([line], isCorrection);
-  if (reply !== null) tell(TEXTS.becameOf(what, outcome(reply)));
+// Sends such lines, says what became of what they do, and whether none was refused.
+async function doAll(lines, what, isCorrection = false) {
+  const reply = await order(lines, isCorrection);
+  const refused = reply === null ? "" : reply.split("\n").find((line) => refusal(line)) || "";
+  if (reply !== null) tell(TEXTS.becameOf(what, outcome(refused)));
   look();
-  return reply !== null && !refusal(reply);
+  return reply !== null && refused === "";
 }
+
+const doOne = (line, what, isCorrection = false) => doAll([line], what, isCorrection);
 
 // ---- the parts of the page
 
@@ -3599,6 +3683,7 @@ function showTab(name) {
     at("tab-" + one).setAttribute("aria-pressed", String(one === name));
   }
   at(name === "tables" ? "aside" : "on-standings").append(at("ranking"));
+  if (lastTables) sayBelow();
 }
 
 async function openTab(name) {
@@ -3655,13 +3740,6 @@ function standsAs(table, minutes) {
   return minutes >= SLOW_TABLE ? "slow" : "plays";
 }
 
-function noteSets(state) {
-  for (const table of state.tables.filter((one) => !one.idle)) {
-    const board = Number(table.board);
-    firstBoards.set(state.round + " " + table.number, board - ((board - 1) % state.boards));
-  }
-}
-
 // How many of a table's boards are done, as marks beside the words.
 function marksOf(table) {
   const done = table.idle ? (table.idle === "NotCurrent" ? boardsOfSet : 0) : placeInSet(Number(table.board)) - 1;
@@ -3694,10 +3772,14 @@ function tablesTable(state) {
     make("thead", null, make("tr", null, ...TEXTS.tableHeads.map((title) => make("th", { scope: "col" }, title)))), make("tbody", null, ...rows));
 }
 
-// Shows the play at a table: its current one, or the first of its set.
-function openTable(table) {
-  return openPlay([lastTables.round, table.number, table.idle ? 1 : placeInSet(Number(table.board))]);
+// The place of the board that a table has now, or of the first of its set.
+function placeNow(round, number) {
+  const table = round === lastTables.round && lastTables.tables.find((one) => one.number === number);
+  return table && !table.idle ? placeInSet(Number(table.board)) : 1;
 }
+
+// Shows the play at a table: its current one, or the first of its set.
+const openTable = (table) => openPlay([lastTables.round, table.number, placeNow(lastTables.round, table.number)]);
 
 // The tables that are still at play and those that wait for a deal, by their numbers, in words; nothing where all are done.
 function stillOpen(state) {
@@ -3714,10 +3796,9 @@ function showTables(state) {
   boardsOfSet = state.boards;
   boardsOfAll = state.all;
   lastTables = state;
-  noteSets(state);
   say("status", roundText(state));
   at("status").className = "";
-  say("below", state.round > state.rounds ? "" : TEXTS.roundOf(state.round, state.rounds));
+  sayBelow();
   const calls = desk.calls.length ? [" ", make("span", { className: "count" }, String(desk.calls.length))] : [];
   if (at("tab-tables").textContent !== TEXTS.tabs.tables + (calls.length ? " " + desk.calls.length : "")) at("tab-tables").replaceChildren(TEXTS.tabs.tables, ...calls);
   const old = at("tables");
@@ -3734,24 +3815,52 @@ function showTables(state) {
   say("round-is", closed ? "" : TEXTS.tablesDone(state.tables.filter((table) => table.idle === "NotCurrent" || table.idle === "SitsOut").length, state.tables.length));
   const label = closed ? TEXTS.allEnded : open.length > 0 ? TEXTS.endWaits(state.round, open) : TEXTS.endRound(state.round, state.round === state.rounds);
   if (end.textContent !== label) end.textContent = label;
-  end.onclick = () => confirmFirst(at("end-question"), TEXTS.asks(label), () => doOne("NEXT " + state.round, TEXTS.endOf(state.round)),
+  end.onclick = () => confirmFirst(at("end-question"), TEXTS.asks(label), TEXTS.verbs.end, () => doOne("NEXT " + state.round, TEXTS.endOf(state.round)),
     state.round === state.rounds ? TEXTS.closeEffect : TEXTS.endEffect(state.round + 1));
+}
+
+// What is in sight, below the title: the play that is looked at, or the round.
+function sayBelow() {
+  const { round, rounds } = lastTables;
+  say("below", tab === "rulings" && opened ? TEXTS.rulingAt(opened.words[1], opened.words[0]) : round > rounds ? "" : TEXTS.roundOf(round, rounds));
 }
 
 // ---- a play that is looked at
 
-const CLOSED = () => { opened = null; at("opened").replaceChildren(); };
+// What was told last of each play.
+const toldPlays = new Map();
 
 // What is told of a play: its text, or null where no answer came.
-const askPlay = (words) => ask("/boards", key + " " + words.join(" "));
+async function askPlay(words) {
+  const text = await ask("/boards", key + " " + words.join(" "));
+  if (text !== null) toldPlays.set(words.join(" "), text);
+  return text;
+}
 
-// Shows a play as it is now; it stays, and is shown anew as it goes on, until it is closed.
+// The play that a text tells of, or null where it is a refusal.
+const playIn = (text) => (text && !refusal(text) ? readBoards(text).boards[0] : null);
+const placesInSet = () => Array.from({ length: boardsOfSet }, (_none, i) => i + 1);
+
+// Shows a play as it is now; it stays, and is shown anew as it goes on, until it is closed. The other boards of its set are asked
+// for once.
 async function openPlay(words) {
   tell("");
-  opened = { words, text: "" };
+  const wanted = { words, text: "", board: null, step: null, back: 1, per: { NS: null, EW: null } };
+  opened = wanted;
   showTab("rulings");
-  await showOpened();
+  showPlay();
+  if (!at("on-rulings").contains(document.activeElement)) at("play-" + words[2]).focus();
   if (typeof scrollTo === "function") scrollTo(0, 0);
+  await showOpened();
+  for (const place of placesInSet()) if (place !== words[2] && opened === wanted) await askPlay([words[0], words[1], place]);
+  showChoosing();
+  await showRulings();
+}
+
+function closePlay() {
+  opened = null;
+  showPlay();
+  at("rule-table").focus();
 }
 
 async function showOpened() {
@@ -3759,77 +3868,200 @@ async function showOpened() {
   if (!wanted) return;
   const text = await askPlay(wanted.words);
   if (opened !== wanted || text === null || text === wanted.text || !at("opened")) return;
-  wanted.text = text;
-  if (refusal(text)) {
-    tell(TEXTS.becameOf(TEXTS.playOf(...wanted.words.slice(0, 2), TEXTS.boardInPlace(wanted.words[2])), outcome(text)));
-    return CLOSED();
-  }
-  const board = { ...readBoards(text).boards[0], text };
-  wanted.board = board;
-  at("opened").replaceChildren(...openedNodes(board, wanted.words));
-  for (const [field, value] of [["round", wanted.words[0]], ["table", wanted.words[1]],
-    ["board", board.number]]) at("rule-" + field).value = String(value);
+  const isNew = wanted.board === null;
+  Object.assign(wanted, { text, board: playIn(text), back: 1 });
+  if (!wanted.board) tell(TEXTS.becameOf(TEXTS.playOf(...wanted.words.slice(0, 2), TEXTS.boardInPlace(wanted.words[2])), outcome(text)));
+  showPlay(isNew);
 }
 
-function openedNodes(board, words) {
-  const first = board.number - words[2] + 1;
-  const others = Array.from({ length: boardsOfSet }, (_none, i) => {
-    const node = make("button",
-      { type: "button", id: "opened-" + (first + i), onclick: () => openPlay([words[0], words[1], i + 1]) }, TEXTS.board(first + i));
-    node.setAttribute("aria-pressed", String(first + i === board.number));
-    return node;
+// Shows what is looked at; what is chosen for a ruling stays while the same play goes on.
+function showPlay(isNew = true) {
+  const board = opened && opened.board;
+  drawAnew(at("opened"), board ? openedNodes(board) : []);
+  at("ruling").hidden = !board;
+  if (isNew) at("ruling").replaceChildren(...(board ? rulingNodes(board) : []));
+  if (board) sayRuling();
+  showChoosing();
+  sayBelow();
+}
+
+// Draws a part anew; what stands in the focus there stays in it.
+function drawAnew(part, nodes) {
+  const focus = document.activeElement && part.contains(document.activeElement) ? document.activeElement.id : "";
+  part.replaceChildren(...nodes);
+  if (focus && at(focus)) at(focus).focus();
+}
+
+function openedNodes(board) {
+  const all = board.cards.length;
+  const step = opened.step === null ? all : Math.min(opened.step, all);
+  const hands = steppedNode(board, "S", step, (now) => { if (opened) opened.step = now === all ? null : now; }, make("h2", null, ...(board.result.none ? [TEXTS.tableNow] : stateNodes(board))));
+  hands.append(make("p", { className: "second" }, TEXTS.onlyDirector));
+  return [hands, playedNode(board, "S", all)];
+}
+
+// ---- which play is looked at
+
+// The contract that an auction came to, and its declarer; null while it goes on, and where all passed.
+function contractOf(board) {
+  const { calls } = board;
+  const view = viewOf(board, "S");
+  const last = lastCall(view, isBid);
+  if (!last || calls.slice(-3).some((call) => call !== "PASS")) return null;
+  const doubled = lastCall(view, (call) => call !== "PASS").call;
+  const lastAt = calls.lastIndexOf(last.call);
+  const first = calls.findIndex((call, i) => isBid(call) && strainOf(call) === strainOf(last.call) && (lastAt - i) % 2 === 0);
+  return { bid: last.call + (isBid(doubled) ? "" : doubled), declarer: SEATS[(SEATS.indexOf(view.dealer) + first) % 4] };
+}
+
+// How far a play is, or what came of it.
+function stateNodes(board) {
+  const { result } = board;
+  if (result.bid) return [...resultNodes(result), ", " + TEXTS.made(result.tricks - 6 - Number(result.bid[0]))];
+  if (!result.none) return resultNodes(result);
+  const contract = contractOf(board);
+  if (contract) return [...resultNodes(contract), ", " + TEXTS.noResult];
+  return [board.calls.length ? TEXTS.inAuction : TEXTS.notBegun];
+}
+
+// A tile for each board of the set, with what is known of it.
+function boardTiles([round, table, chosen]) {
+  const told = placesInSet().map((place) => toldPlays.get([round, table, place].join(" ")));
+  const known = told.map(playIn);
+  const from = known.findIndex(Boolean);
+  return told.map((text, i) => {
+    const label = from < 0 ? TEXTS.placeOf(i) : String(known[from].number - from + i);
+    const state = known[i] ? stateNodes(known[i]) : [text ? TEXTS.dealStates.open : TEXTS.dealStates.unknown];
+    const tile = make("button", { type: "button", id: "play-" + (i + 1), className: "tile", onclick: () => openPlay([round, table, i + 1]) },
+      make("b", null, label), " ", make("span", null, ...state));
+    tile.setAttribute("aria-pressed", String(i + 1 === chosen));
+    return tile;
   });
-  const latest = latestOf(board);
-  const back = button(latest ? TEXTS.takeBackOf(latest) : TEXTS.nothingDone, "", "opened-back", latest !== "", () => takeLatestBack(board, words));
-  return [make("div", { className: "row" },
-    make("h2", null, TEXTS.openedAt(words[1], words[0])), ...others,
-    make("button", { type: "button", id: "opened-close", onclick: CLOSED }, TEXTS.close)),
-    make("div", { className: "row" }, back), questionBox("back-question"), bandNode(board), make("div", { className: "parts" }, steppedNode(board, "S", board.cards.length, () => {}), playedNode(board, "S", board.cards.length))];
+}
+
+// The numbers of the tables: where the session is closed and none was told, all that there may be.
+let tableNumbers = Array.from({ length: MOST_TABLES }, (_none, i) => String(i + 1));
+
+// A round and a table from lists, and the table's boards.
+function choosingNodes() {
+  const { round: now, rounds, tables } = lastTables;
+  if (tables.length) tableNumbers = tables.map((table) => table.number);
+  const [round, table] = opened ? opened.words.map(String) : [String(Math.min(now, rounds)), ""];
+  const list = (id, label, options, value) => {
+    const node = choice(id, label, options, value);
+    node.onchange = () => {
+      const [toRound, toTable] = [Number(at("rule-round").value), at("rule-table").value];
+      if (toTable) openPlay([toRound, toTable, placeNow(toRound, toTable)]);
+    };
+    return node;
+  };
+  return [
+    list("rule-round", TEXTS.round, Array.from({ length: Math.min(now, rounds) }, (_none, i) => [String(i + 1), TEXTS.roundNow(i + 1, i + 1 === now)]), round),
+    list("rule-table", TEXTS.tableField, [...(opened ? [] : [["", TEXTS.choose]]), ...tableNumbers.map((number) => [number, number])], table),
+    ...(opened ? [make("div", { id: "plays", role: "group", aria_label: TEXTS.boardField }, ...boardTiles(opened.words))] : [make("p", { className: "second" }, TEXTS.chooseTable)]),
+    ...(opened ? [make("button", { type: "button", id: "opened-close", onclick: closePlay }, TEXTS.close)] : [])];
+}
+
+// Shows them where they have changed, so that a list that is open stays.
+let choosingShown = "";
+function showChoosing() {
+  const { round, rounds, tables } = lastTables;
+  const words = opened ? opened.words : [];
+  const told = placesInSet().map((place) => toldPlays.get([...words.slice(0, 2), place].join(" ")));
+  const made = JSON.stringify([round, rounds, tables.map((table) => table.number), words, told]);
+  if (made === choosingShown && at("rule-round")) return;
+  choosingShown = made;
+  drawAnew(at("choosing"), choosingNodes());
 }
 
 // ---- corrections of what players did
 
-// The latest thing done in a play, in words: a claim, a card or a call; empty where nothing was done.
-function latestOf(board) {
-  const card = board.cards[board.cards.length - 1];
-  const count = board.calls.length;
-  if (board.claim) return TEXTS.claimBy(SEAT_NAMES[board.claim.seat], board.claim.tricks);
-  if (card) return TEXTS.doneBy(SEAT_NAMES[card.seat], cardName(card.card));
-  if (count === 0) return "";
-  return TEXTS.doneBy(SEAT_NAMES[lastCaller(board)], callName(board.calls[count - 1]));
+// All that was done in a play, the latest last.
+function deedsOf(board) {
+  const dealer = SEATS.indexOf(dealerOf(board.number));
+  const calls = board.calls.map((call, i) => ({ seat: SEATS[(dealer + i) % 4], name: callName(call), isCall: true }));
+  const cards = board.cards.map(({ seat, card, trick }) => ({ seat, name: cardName(card), trick }));
+  return [...calls, ...cards, ...(board.claim ? [{ seat: board.claim.seat, claim: board.claim.tricks }] : [])];
 }
 
-const lastCaller = (board) => SEATS[(SEATS.indexOf(dealerOf(board.number)) + board.calls.length - 1) % 4];
+const deedText = ({ seat, name, claim }) => (claim === undefined ? TEXTS.doneBy(SEAT_NAMES[seat], name) : TEXTS.claimBy(SEAT_NAMES[seat], claim));
 
-// Does something to a play once the question is answered, if the play is still what it was when it was asked.
-function onceUnchanged(box, words, seen, question, act, ...more) {
-  confirmFirst(box, question, async () => {
+// How many of some deeds are calls, cards and claims.
+const kindsOf = (deeds) => [deeds.filter((one) => one.isCall).length, deeds.filter((one) => one.trick !== undefined).length, deeds.filter((one) => one.claim !== undefined).length];
+
+// What it is called to take back so many.
+const backName = (deeds) => TEXTS.takeBackOf(deeds.length === 1 ? deedText(deeds[0]) : TEXTS.someDeeds(...kindsOf(deeds)));
+
+// What becomes of a play of which these are taken back.
+function backEffect(board, deeds) {
+  const [{ seat, isCall, claim }] = deeds;
+  if (claim !== undefined) return TEXTS.claimBackTo;
+  const list = deeds.length === 1 ? "" : TEXTS.goBack(deeds.map(deedText));
+  if (isCall) return list + TEXTS.callBackTo(SEAT_NAMES[seat]);
+  // The leader sits behind declarer, whose partner is dummy.
+  const dummy = nextTo(board.cards[0].seat);
+  const player = SEAT_NAMES[seat === dummy ? partner(dummy) : seat];
+  return list ? list + TEXTS.playsThen(player, seat === dummy) : TEXTS.cardBackTo(player, SEAT_NAMES[seat]);
+}
+
+// The latest deeds of the play that is looked at, as many as are to be taken back.
+const deedsBack = () => deedsOf(opened.board).slice(-opened.back);
+
+// Does something to the play that is looked at once the question is answered, if it is still what it was when it was asked.
+function onceUnchanged(question, verb, act, ...more) {
+  const { words, text } = opened;
+  confirmFirst(at("rule-question"), question, verb, async () => {
     const now = await askPlay(words);
-    if (now !== seen) return tell(now === null ? TEXTS.noAnswer : TEXTS.changedSince);
+    if (now !== text) return tell(now === null ? TEXTS.noAnswer : TEXTS.changedSince);
     return act();
   }, ...more);
 }
 
-// What becomes of a play whose latest claim, card or call is taken back.
-function backEffect(board) {
-  const card = board.cards[board.cards.length - 1];
-  if (board.claim) return TEXTS.claimBackTo;
-  if (!card) return TEXTS.callBackTo(SEAT_NAMES[lastCaller(board)]);
-  // The leader sits behind declarer, whose partner is dummy.
-  const dummy = nextTo(board.cards[0].seat);
-  return TEXTS.cardBackTo(SEAT_NAMES[card.seat === dummy ? partner(dummy) : card.seat], SEAT_NAMES[card.seat]);
-}
-
-function takeLatestBack(board, words, then = () => {}) {
-  const what = TEXTS.atTableOnBoard(TEXTS.takeBackOf(latestOf(board)), words[1], board.number);
-  const back = async () => { if (await doOne("BACK " + words.join(" "), what, true)) then(); };
-  onceUnchanged(at("back-question"), words, board.text, TEXTS.asks(what), back, [backEffect(board)], [TEXTS.playedBy(board.names)]);
+function takeBack(then = () => {}) {
+  const { board, words } = opened;
+  const deeds = deedsBack();
+  const what = TEXTS.atTableOnBoard(backName(deeds), words[1], board.number);
+  const back = async () => { if (await doAll(deeds.map(() => "BACK " + words.join(" ")), what, true)) then(); };
+  onceUnchanged(TEXTS.asks(what), TEXTS.verbs.back, back, [backEffect(board, deeds)], [TEXTS.playedBy(board.names)]);
 }
 
 // The play at a table that asks for its latest call or card back, and the question whether it goes; its call is answered then.
 async function grantBack(table) {
   await openTable(table);
-  if (opened && opened.board && latestOf(opened.board)) takeLatestBack(opened.board, opened.words, () => askDesk("ANSWERED " + table.number));
+  if (opened && opened.board && deedsOf(opened.board).length) takeBack(() => askDesk("ANSWERED " + table.number));
+}
+
+// How many are taken back; what they are is struck where it stands.
+function backNodes() {
+  const step = (by) => () => { opened.back += by; sayRuling(); };
+  return [
+    make("div", { className: "row steps" }, button("\u2212", TEXTS.less, "back-less", true, step(-1)), make("b", { id: "back-count", className: "large" }),
+      button("+", TEXTS.more, "back-more", true, step(1)), make("p", { id: "back-to", role: "status" })),
+    button("", "", "opened-back", true, () => takeBack())];
+}
+
+function sayBack(board) {
+  const all = deedsOf(board);
+  opened.back = Math.max(1, Math.min(opened.back, all.length));
+  const deeds = all.slice(-opened.back);
+  say("back-count", String(deeds.length));
+  say("back-to", deeds.length ? TEXTS.backTo(...kindsOf(deeds), SEAT_NAMES[deeds[0].seat], deeds[0].trick) : "");
+  say("opened-back", deeds.length ? backName(deeds) : TEXTS.nothingDone);
+  at("opened-back").disabled = deeds.length === 0;
+  at("back-less").disabled = opened.back <= 1;
+  at("back-more").disabled = opened.back >= all.length;
+  strike(board, deeds.length);
+}
+
+// Strikes the latest that was done, so many, in the auction and in the tricks.
+function strike(board, count) {
+  const [auction, tricks] = at("opened").querySelectorAll("table");
+  const skipped = ["W", "N", "E", "S"].indexOf(dealerOf(board.number));
+  const calls = [...auction.querySelectorAll("td")].slice(skipped, skipped + board.calls.length);
+  const cards = tricks ? [...tricks.querySelectorAll("tr")].flatMap((row) => [...row.querySelectorAll("td")].slice(2)) : [];
+  const done = [...calls, ...cards.slice(0, board.cards.length)];
+  const from = done.length + (board.claim ? 1 : 0) - count;
+  done.forEach((cell, i) => { cell.className = i >= from ? "struck" : ""; });
 }
 
 // ---- deals
@@ -3880,7 +4112,7 @@ function shuffleBoards() {
   if (!isFilledIn("dealing")) return;
   const boards = boardsToShuffle();
   if (boards.length === 0) return tell(TEXTS.noBoardsThere);
-  confirmFirst(at("deal-question"), TEXTS.asks(TEXTS.shuffleOf(boards[0], boards[boards.length - 1])), () => {
+  confirmFirst(at("deal-question"), TEXTS.asks(TEXTS.shuffleOf(boards[0], boards[boards.length - 1])), TEXTS.verbs.shuffle, () => {
     const seed = drawSeed();
     dealAll(boards.map((board) => "SHUFFLE " + board + " " + seed), boards);
   }, TEXTS.shuffleEffect);
@@ -3909,7 +4141,7 @@ async function findDealt() {
       const reply = await askPlay(play);
       if (mine !== search || key !== asked) return;
       if (reply === null) return endSearch();
-      if (!refusal(reply)) found.add(readBoards(reply).boards[0].number);
+      if (playIn(reply)) found.add(playIn(reply).number);
     }
     for (const board of found) dealtAs.set(board, "dealt");
     showDealt();
@@ -3972,7 +4204,7 @@ function dealText(text) {
   const others = deals.filter((deal) => !isOfSession(deal)).map((deal) => deal[0]);
   if (some.length === 0) return tell(TEXTS.notOfSession(others));
   const boards = some.map((deal) => deal[0]);
-  return confirmFirst(at("deal-question"), TEXTS.asks(TEXTS.dealThese(boards)),
+  return confirmFirst(at("deal-question"), TEXTS.asks(TEXTS.dealThese(boards)), TEXTS.verbs.deal,
     () => dealAll(some.map((deal) => "DEAL " + deal[0] + " " + deal[1]), boards), ...(others.length ? [TEXTS.notOfSession(others)] : []), ...faultsIn(some));
 }
 
@@ -3982,9 +4214,10 @@ function numberField(id, label, low, high, value) {
   return make("span", { className: "field" }, make("label", { for: id }, label), make("input", { id, type: "number", min: low, max: high, value }));
 }
 
-function choice(id, label, options) {
-  return make("span", { className: "field" }, make("label", { for: id }, label),
-    make("select", { id }, ...options.map((option) => make("option", { value: option[0] }, option[1]))));
+function choice(id, label, options, value) {
+  const node = make("select", { id }, ...options.map((option) => make("option", { value: option[0] }, option[1])));
+  if (value !== undefined) node.value = value;
+  return make("span", { className: "field" }, make("label", { for: id }, label), node);
 }
 
 const numberAt = (id) => Math.trunc(Number(at(id).value));
@@ -3996,100 +4229,118 @@ function isFilledIn(id) {
   return filled;
 }
 
-// A play: round, table, and the board's place in its set; null where other boards were seen at that table.
-function playWords(prefix) {
-  const [round, table, board] = ["-round", "-table", "-board"].map((field) => numberAt(prefix + field));
-  const first = firstBoards.get(round + " " + table);
-  if (first !== undefined && (board < first || board >= first + boardsOfSet)) {
-    tell(TEXTS.tableHas(round, table, first, first + boardsOfSet - 1));
-    return null;
-  }
-  return [round, table, placeInSet(board)];
-}
-
 // All bids, the lowest first.
 const ALL_BIDS = [1, 2, 3, 4, 5, 6, 7].flatMap((level) => ["C", "D", "H", "S", "NT"].map((strain) => level + strain));
 
 const placeInSet = (board) => ((board - 1) % boardsOfSet) + 1;
 
-// The play by its round, its table, and its board; where it was not seen which boards were played there, by that board's place.
-function playName(prefix) {
-  const [round, table, board] = ["-round", "-table", "-board"].map((field) => numberAt(prefix + field));
-  return TEXTS.playOf(round, table, firstBoards.has(round + " " + table) ? TEXTS.boardNumber(board) : TEXTS.boardInPlace(placeInSet(board)));
-}
-
-function playFields(prefix) {
-  return [numberField(prefix + "-round", TEXTS.round, 1, MOST_TABLES, 1), numberField(prefix + "-table", TEXTS.tableField, 1, MOST_TABLES, 1),
-    numberField(prefix + "-board", TEXTS.boardField, 1, MOST_BOARDS, 1)];
-}
-
 // ---- rulings
 
-// What a play is now, and what a ruling makes of it, as words of a question; nothing where nothing is told of it.
+// What a play is now, and what a ruling makes of it, as words of a question.
 function beforeAndAfter(board, after) {
   return [
     [TEXTS.nowIs, ...resultNodes(board.result),
       ...(board.result.bid ? [", " + TEXTS.made(board.result.tricks - 6 - Number(board.result.bid[0])) + TEXTS.northSouthScore(signed(board.result.score))] : []),
-      TEXTS.thenIs, after(board),
+      TEXTS.thenIs, after,
       "."],
     [TEXTS.playedBy(board.names)]];
 }
 
-// Rules on the play of the fields: a keyword, what follows the play, what the result becomes, and whether it is a correction.
-async function rule(what, word, rest, after, isCorrection = false) {
-  if (!isFilledIn("on-rulings")) return;
-  const words = playWords("rule");
-  if (words === null) return;
-  const seen = await askPlay(words);
-  if (seen === null) return tell(TEXTS.noAnswer);
-  const board = refusal(seen) ? null : readBoards(seen).boards[0];
-  // The answer tells which boards were played there.
-  if (board) firstBoards.set(words[0] + " " + words[1], Number(board.number) - words[2] + 1);
-  if (playWords("rule") === null) return;
-  const name = what + ", " + playName("rule");
+// Rules on the play that is looked at: what it is called, a keyword, what follows the play, what the result becomes, and whether it
+// is a correction.
+function rule(what, verb, word, rest, after, isCorrection = false) {
+  const { words, board } = opened;
+  const name = what + ", " + TEXTS.playOf(words[0], words[1], TEXTS.boardNumber(board.number));
   const line = [word, ...words, rest].join(" ").trim();
-  onceUnchanged(at("rule-question"), words, seen, TEXTS.asks(name), () => doOne(line, name, isCorrection), ...(board && board.names ? beforeAndAfter(board, after) : []));
+  onceUnchanged(TEXTS.asks(name), verb, () => doOne(line, name, isCorrection), ...beforeAndAfter(board, after));
+}
+
+// What a contract with so many tricks scores for North and South.
+function scoreThen(board, bid, declarer, tricks) {
+  const score = scoreOf(bid, tricks, isVulnerable({ vulnerable: vulnerableOf(board.number) }, declarer));
+  return signed(declarer === "N" || declarer === "S" ? score : -score);
 }
 
 // What a number of tricks makes of the contract of a play.
 function withTricks(board, tricks) {
-  const bid = board.result.bid || [...board.calls].reverse().find(isBid);
+  const { bid, declarer } = board.result.bid ? board.result : contractOf(board) || {};
   if (!bid) return TEXTS.tricks(tricks);
-  return callName(bid) + ", " + TEXTS.made(tricks - 6 - Number(bid[0])) + (board.result.declarer ? scoreThen(board, bid, board.result.declarer, tricks) : "");
+  return callName(bid) + ", " + TEXTS.made(tricks - 6 - Number(bid[0])) + TEXTS.northSouthScore(scoreThen(board, bid, declarer, tricks));
 }
 
-// What North and South score then.
-function scoreThen(board, bid, declarer, tricks) {
-  const score = scoreOf(bid, tricks, isVulnerable({ vulnerable: vulnerableOf(board.number) }, declarer));
-  return TEXTS.northSouthScore(signed(declarer === "N" || declarer === "S" ? score : -score));
+const tricksList = (low) => Array.from({ length: 14 - low }, (_none, i) => [String(low + i), TEXTS.tricks(low + i)]);
+const action = (id, act) => { const node = button("", "", id, true, act); node.className = "action"; return node; };
+
+function tricksNodes(board) {
+  const set = () => { const tricks = numberAt("rule-tricks"); rule(TEXTS.setTricksTo(tricks), TEXTS.verbs.set, "TRICKS", String(tricks), withTricks(opened.board, tricks)); };
+  const chosen = choice("rule-tricks", TEXTS.declarersTricks, tricksList(0), String(board.result.tricks === undefined ? 7 : board.result.tricks));
+  chosen.onchange = sayRuling;
+  return [make("div", { className: "row" }, chosen, make("b", { id: "tricks-then" })), action("rule-set", set)];
 }
 
-function rulingNodes() {
-  const setTricks = () => { const tricks = numberAt("rule-tricks"); rule(
-    TEXTS.setTricksTo(tricks), "TRICKS", String(tricks), (board) => withTricks(board, tricks)); };
-  const average = () => { const [ns, ew] = [at("rule-ns").value, at("rule-ew").value]; rule(
-    TEXTS.award(ns, ew), "ADJUST", ns + " " + ew, () => TEXTS.average(ns, ew)); };
+// The contract that is assigned, its declarer and his tricks.
+const assigned = () => [at("assign-bid").value + at("assign-doubled").value, at("assign-declarer").value, numberAt("assign-tricks")];
+
+function assignNodes(board) {
+  const now = (board.result.bid && board.result) || contractOf(board) || { bid: ALL_BIDS[0], declarer: "N" };
+  const [bid, doubled] = /^(.*?)(X*)$/.exec(now.bid).slice(1);
   const assign = () => {
-    const [contract, declarer, tricks] = [at("assign-bid").value + at("assign-doubled").value, at("assign-declarer").value, numberAt("assign-tricks")];
-    const score = TEXTS.assignedAs(callName(contract), SEAT_NAMES[declarer], TEXTS.made(tricks - 6 - Number(contract[0])));
-    rule(TEXTS.assignScore, "ASSIGN", [contract, declarer, tricks].join(" "), (board) => score + scoreThen(board, contract, declarer, tricks), true);
+    const [contract, declarer, tricks] = assigned();
+    const score = TEXTS.northSouthScore(scoreThen(opened.board, contract, declarer, tricks));
+    rule(TEXTS.assignScore, TEXTS.verbs.assign, "ASSIGN", [contract, declarer, tricks].join(" "), TEXTS.assignedAs(callName(contract), SEAT_NAMES[declarer], TEXTS.made(tricks - 6 - Number(contract[0]))) + score, true);
   };
-  const show = () => { if (isFilledIn("on-rulings")) { const words = playWords("rule"); if (words) openPlay(words); } };
-  const row = (...nodes) => make("div", { className: "row" }, ...nodes);
+  const chosen = make("div", { className: "row", onchange: sayRuling },
+    choice("assign-bid", TEXTS.contract, ALL_BIDS.map((one) => [one, callName(one)]), bid), choice("assign-doubled", TEXTS.double, TEXTS.doublings, doubled),
+    choice("assign-declarer", TEXTS.declarerField, SEATS.map((seat) => [seat, SEAT_NAMES[seat]]), now.declarer),
+    choice("assign-tricks", TEXTS.declarersTricks, tricksList(0), String(now.tricks === undefined ? Number(bid[0]) + 6 : now.tricks)));
+  const send = action("rule-assign", assign);
+  send.className = "action send";
+  return [chosen, send];
+}
+
+// For each side one of three percentages; both are chosen before they are awarded.
+function averageNodes() {
+  const side = (name, short, label) => make("div", { className: "per", role: "group", aria_label: label }, make("b", { aria_hidden: "true" }, short),
+    ...TEXTS.per.map(([value, words]) => button(words, "", "per-" + name + "-" + value, true, () => { opened.per[name] = value; sayRuling(); })));
+  const award = () => { const { NS, EW } = opened.per; rule(TEXTS.award(NS, EW), TEXTS.verbs.award, "ADJUST", NS + " " + EW, TEXTS.average(NS, EW)); };
+  return [side("NS", TEXTS.northSouth, TEXTS.northSouthPer), side("EW", TEXTS.eastWest, TEXTS.eastWestPer), action("rule-average", award)];
+}
+
+// What the buttons of the rulings say, by what is chosen.
+function sayRuling() {
+  const { board, per } = opened;
+  sayBack(board);
+  const tricks = numberAt("rule-tricks");
+  say("tricks-then", withTricks(board, tricks));
+  say("rule-set", board.result.none ? TEXTS.notOver : TEXTS.setTricksTo(tricks));
+  at("rule-set").disabled = Boolean(board.result.none);
+  say("rule-assign", TEXTS.assignIt(scoreThen(board, ...assigned())));
+  for (const side of ["NS", "EW"]) for (const [value] of TEXTS.per) at("per-" + side + "-" + value).setAttribute("aria-pressed", String(per[side] === value));
+  at("rule-average").disabled = !per.NS || !per.EW;
+  say("rule-average", per.NS && per.EW ? TEXTS.award(per.NS, per.EW) : TEXTS.awardAverages);
+}
+
+function rulingNodes(board) {
+  const whole = Math.max(7, Math.floor(board.cards.length / 4));
+  const out = action("rule-void", () => rule(TEXTS.takeOut, TEXTS.verbs.out, "VOID", "", TEXTS.takenOut));
+  const back = action("rule-restore", () => rule(TEXTS.takeBack, TEXTS.verbs.back, "RESTORE", "", TEXTS.asPlayed));
+  out.append(TEXTS.takeOut);
+  back.append(TEXTS.takeBack);
+  const first = folded(TEXTS.takeBackDone, ...backNodes());
+  first.open = true;
+  return [make("h2", null, TEXTS.rule), questionBox("rule-question"), first,
+    folded(TEXTS.setTheTricks, ...tricksNodes(board)), folded(TEXTS.assignScore, ...assignNodes(board)), folded(TEXTS.averages, ...averageNodes()),
+    folded(TEXTS.takeOut, out), folded(TEXTS.takeBackButton, back),
+    folded(TEXTS.solving, make("div", { className: "row" }, choice("solve-tricks", TEXTS.afterTricks, tricksList(7).map(([value, words]) => [value, TEXTS.after(words)]), String(whole)), button(TEXTS.solve, "", "solve", true, solve)),
+      make("p", { id: "solved", role: "status" }))];
+}
+
+// The parts of the page of rulings: which play, the play, what is ruled on it, and the rulings that stand.
+function rulingsNodes() {
   return [
-    make("section", { id: "choosing", className: "panel", aria_label: TEXTS.openPlay }, row(...playFields("rule"), button(TEXTS.openPlay, "", "rule-open", true, show))),
+    make("section", { id: "choosing", className: "panel", aria_label: TEXTS.openPlay }),
     make("section", { id: "opened", aria_label: TEXTS.theBoard }),
-    section("ruling", TEXTS.rule, questionBox("rule-question"),
-      folded(TEXTS.setTheTricks, row(numberField("rule-tricks", TEXTS.declarersTricks, 0, 13, 7), button(TEXTS.setTricks, "", "rule-set", true, setTricks))),
-      folded(TEXTS.assignScore, row(choice("assign-bid", TEXTS.contract, ALL_BIDS.map((bid) => [bid, callName(bid)])),
-        choice("assign-doubled", TEXTS.double, TEXTS.doublings), choice("assign-declarer", TEXTS.declarerField, SEATS.map((seat) => [seat, SEAT_NAMES[seat]])),
-        numberField("assign-tricks", TEXTS.declarersTricks, 0, 13, 7), button(TEXTS.assignScore, "", "rule-assign", true, assign))),
-      folded(TEXTS.averages, row(choice("rule-ns", TEXTS.northSouthPer, TEXTS.per), choice("rule-ew", TEXTS.eastWestPer, TEXTS.per),
-        button(TEXTS.awardAverages, "", "rule-average", true, average))),
-      folded(TEXTS.outAndBack, row(button(TEXTS.takeOut, "", "rule-void", true, () => rule(TEXTS.takeOut, "VOID", "", () => TEXTS.takenOut)),
-        button(TEXTS.takeBackButton, "", "rule-restore", true, () => rule(TEXTS.takeBack, "RESTORE", "", () => TEXTS.asPlayed)))),
-      folded(TEXTS.solving, row(numberField("solve-tricks", TEXTS.afterTricks, 7, 13, 7), button(TEXTS.solve, "", "solve", true, solve)),
-        make("p", { id: "solved", role: "status" }))),
+    make("section", { id: "ruling", className: "panel", aria_label: TEXTS.rule, hidden: true }),
     section("standing", TEXTS.rulingsStand, make("ul", { id: "ruled" }))];
 }
 
@@ -4116,6 +4367,33 @@ async function showRulings() {
   at("others").replaceChildren(...othersNodes(open));
 }
 
+// ---- the disks
+
+// The disks that the session is on: each with its name, and whether it is lost.
+function disksOf(text) {
+  const [, kept, lost] = /^(.*) alone, (.*) is lost$/.exec(text) || [];
+  if (lost !== undefined) return [{ name: kept, isLost: false }, { name: lost, isLost: true }];
+  return text.split(" and ").filter((name) => name !== "").map((name) => ({ name, isLost: false }));
+}
+
+// A tile for each, and what is to be done where one fails.
+function diskNodes(disks) {
+  const isOneLost = disks.some((disk) => disk.isLost);
+  const tile = ({ name, isLost }, i) => make("li", { className: isLost ? "is-lost" : "" },
+    make("b", null, disks.length > 1 && !isOneLost ? TEXTS.diskOf(i) : TEXTS.oneDisk), make("span", { className: "second" }, name),
+    make("span", { className: "large" }, isLost ? TEXTS.diskIsLost : TEXTS.diskInOrder), make("span", { className: "second" }, isLost ? TEXTS.writtenNoMore : TEXTS.writtenFirst));
+  return [make("ul", { className: "disks" }, ...disks.map(tile)), make("h3", null, TEXTS.ifDiskFails),
+    make("ol", null, ...TEXTS.diskSteps(disks.length, isOneLost).map((step) => make("li", null, step)))];
+}
+
+function showDisks() {
+  if (desk.ends === null) return;
+  say("serving", TEXTS.serving(new Date(desk.at + SECOND * desk.ends).toLocaleTimeString([], { hour: "2-digit", minute: "2-digit" })));
+  if (desk.disk === at("disks").shows) return;
+  at("disks").shows = desk.disk;
+  at("disks").replaceChildren(...(desk.disk ? diskNodes(disksOf(desk.disk)) : []));
+}
+
 async function turnOthers(word) {
   const reply = await ask("/boards", key + " " + word);
   tell(reply === null ? TEXTS.unknownDone : refusal(reply) ? outcome(reply) : "");
@@ -4125,9 +4403,7 @@ async function turnOthers(word) {
 // ---- endings, rankings, results, lines
 
 async function solve() {
-  if (!isFilledIn("on-rulings")) return;
-  const play = playWords("rule");
-  const reply = play === null ? null : await order(["SOLVE " + play.join(" ") + " " + 4 * numberAt("solve-tricks")]);
+  const reply = await order(["SOLVE " + opened.words.join(" ") + " " + 4 * numberAt("solve-tricks")]);
   if (reply === null) return;
   const words = reply.split("\n")[0].split(" ");
   say("solved", words[0] === "OK" ? TEXTS.solved(words[1], words[2]) : TEXTS.notSolved(outcome(reply)));
@@ -4186,7 +4462,7 @@ function undeal() {
   if (!isFilledIn("dealing")) return;
   const board = numberAt("undeal-board");
   const undo = async () => { if (await doOne("UNDEAL " + board, TEXTS.undealOf(board), true)) { dealtAs.delete(board); dealtAnew(); } };
-  confirmFirst(at("deal-question"), TEXTS.asks(TEXTS.undealOf(board)), undo, TEXTS.undealEffect);
+  confirmFirst(at("deal-question"), TEXTS.asks(TEXTS.undealOf(board)), TEXTS.verbs.back, undo, TEXTS.undealEffect);
 }
 
 // The deals of a file stand in the text, to be looked at and dealt.
@@ -4223,9 +4499,9 @@ function directorNodes() {
         button(TEXTS.endTheRound, "", "end-round", false, () => {}), questionBox("end-question")),
       section("telling", TEXTS.telling, ...tellingNodes()))),
     on("boards", section("dealing", TEXTS.dealBoards, ...dealNodes())),
-    on("rulings", ...rulingNodes()),
+    on("rulings", ...rulingsNodes()),
     on("standings", section("ranking", TEXTS.standings, button(TEXTS.showRanking, "", "rank", true, askRankings), make("div", { id: "rankings" }))),
-    on("evening", section("keeping", TEXTS.thisEvening, make("p", { id: "serving" })), section("seeing", TEXTS.othersHead, make("div", { id: "others" }, ...othersNodes(null))),
+    on("evening", section("keeping", TEXTS.thisEvening, make("p", { id: "serving" }), make("div", { id: "disks" })), section("seeing", TEXTS.othersHead, make("div", { id: "others" }, ...othersNodes(null))),
       section("publishing", TEXTS.results, make("div", { className: "row" },
         button(TEXTS.showResults, "", "show-results", true, showResults), button(TEXTS.print, "", "print", true, () => window.print())),
       make("pre", { id: "results" })),
@@ -4241,12 +4517,14 @@ async function showDirector(reply, asked, mine) {
     shown = "director";
     opened = null;
     showRulings.shown = "";
+    toldPlays.clear();
     tab = "tables";
     at("main").replaceChildren(...directorNodes());
     at("tabs").replaceChildren(...tabNodes());
     at("tabs").hidden = false;
     showTab("tables");
     showTables(state);
+    showChoosing();
     at("shuffle-last").value = state.all;
     putFirst.last = 1;
     say("deal-of", TEXTS.boardsInSets(state.all, state.boards));
@@ -4257,8 +4535,9 @@ async function showDirector(reply, asked, mine) {
   }
   if (mine !== turn) return;
   showTables(state);
-  if (desk.ends !== null) say("serving", TEXTS.serving(desk.disk, new Date(desk.at + SECOND * desk.ends).toLocaleTimeString([], { hour: "2-digit", minute: "2-digit" })));
-  await showOpened();
+  showDisks();
+  showChoosing();
+  if (tab === "rulings") await showOpened();
   if (tab === "rulings" || tab === "evening") await showRulings();
   if (seesStandings() && Date.now() - standingsAt > STANDINGS_LAST) await showRankings();
 }
@@ -4275,10 +4554,12 @@ pub const UNKNOWN_PAGE: &str = r##"<!doctype html>
 <link rel="icon" href="data:,">
 <link rel="stylesheet" href="/table.css">
 </head>
-<body>
-<main class="panel">
-<h1>No such page</h1>
-<p>The bridge tables are at <a href="/">the first page of this server</a>.</p>
+<body class="login">
+<main>
+<div class="panel">
+<div class="login-head"><h1 class="large">No such page</h1></div>
+<div class="login-key"><p>The bridge tables are at the first page of this server.</p><p><a class="send" href="/">To the tables</a></p></div>
+</div>
 </main>
 </body>
 </html>
