@@ -26,6 +26,7 @@ mod search;
 pub mod solver;
 mod sure_card;
 mod table;
+mod top_trumps;
 mod trick;
 
 pub use cache::Cache;
