@@ -1,14 +1,13 @@
 -- A trick of a side with top trumps: who has played one of them to it, and that it is then the side's.
-use Rattle.std.proofs.Common.{◌≡◌, ℕ, zero, suc, ◌+◌, ◌-◌, ◌*◌, ◌/◌, ◌<◌, ◌≤◌, ◌⊎◌, inl, inr, Bool, true, false, not, ◌&&◌, ◌||◌, ◌==◌, nat_le, List, [], ◌∷◌, ◌++◌, length, map, get_or, count_by, Option, Some, None, refl, sym, ap, ◌∙◌, subst, arith, length-append}
+use Rattle.std.proofs.Common.{◌≡◌, ℕ, ◌+◌, ◌<◌, ◌≤◌, ◌⊎◌, inl, inr, Bool, true, false, not, ◌&&◌, ◌==◌, List, [], ◌∷◌, ◌++◌, length, get_or, count_by, Option, Some, None, refl, sym, ap, ◌∙◌, subst, arith, length-append}
 use Rattle.std.proofs.Math.Path.{fun_ext}
 use Rattle.std.proofs.Math.Seq.{get_or-append_seam}
 use Rattle.std.proofs.lemmas.List.{get_or_append_left}
 use Rattle.std.proofs.lemmas.List.Sums.{AllPass-from_list_all}
-use Rattle.std.proofs.lemmas.Bool.{cases_eq, cases_lt, eqb-true, and_parts, le-leb, lt-leb}
+use Rattle.std.proofs.lemmas.Bool.{cases_eq, cases_lt, eqb-true}
 use Rattle.std.proofs.lemmas.Bool.Decides.{nat_tests}
 use Rattle.bridge_cards.specs.declared.suit.Suit.{Suit}
 use Rattle.bridge_cards.specs.declared.seat.Seat.{Seat}
-use Rattle.bridge_cards.specs.declared.seat.Seat.TheVariants.{North, East, South, West}
 use Rattle.bridge_cards.specs.declared.seat.Side.{Side}
 use Rattle.bridge_cards.specs.declared.seat.Side.TheVariants.{NorthSouth, EastWest}
 use Rattle.bridge_cards.specs.Seat.{clockwise_from, same_seat, side_of, same_side, plays_for}
@@ -17,18 +16,12 @@ use Rattle.bridge_cards.specs.CardSet.{deck}
 use Rattle.bridge_cards.specs.Trick.{is_trump, beats, is_or_beats, next_leader}
 use Rattle.bridge_cards.proofs.CardCounts.{count_by-without}
 use Rattle.bridge_endings.specs.TrickValue.{IsWinning}
-use Rattle.bridge_endings.specs.Worth.{may_be_played, after_playing, trick_for, worth_after, worth_with}
-use Rattle.bridge_endings.specs.Left.{is_sought}
+use Rattle.bridge_endings.specs.Worth.{after_playing}
 use Rattle.bridge_endings.specs.Agree.{IsDealtOut, IsUpward}
-use Rattle.bridge_endings.specs.Trumps.{held_of, NoneOfTheirs, HasEach, IsSettledBy}
+use Rattle.bridge_endings.specs.Trumps.{held_of, NoneOfTheirs}
 use Rattle.bridge_endings.proofs.Seats.{same_seat-eq, same_seat-self, other_place}
-use Rattle.bridge_endings.proofs.Partners.{counted_card}
-use Rattle.bridge_endings.proofs.Answered.{counts_le}
 use Rattle.bridge_endings.proofs.Winning.{winning_is, winning_led, winning_card, winning_kept}
-use Rattle.bridge_endings.proofs.WorthSteps.{worth_of_card, worth_with-suc, worth_with_le}
-use Rattle.bridge_endings.proofs.SearchSteps.{worth_after-part, worth_after-whole, need_less}
-use Rattle.bridge_endings.proofs.LegalCards.{may_be_played-held}
-use Rattle.bridge_endings.proofs.TrickWon.{dealt_out_after, best_all, some_legal}
+use Rattle.bridge_endings.proofs.TrickWon.{dealt_out_after}
 
 -- ---- hands while cards are played
 

@@ -1,5 +1,5 @@
 -- What the tests of top trumps tell, and the answer that they give.
-use Rattle.std.proofs.Common.{◌≡◌, ℕ, ◌+◌, ◌*◌, ◌/◌, ◌≤◌, ◌⊎◌, inl, inr, Bool, true, false, not, ◌&&◌, ◌||◌, nat_le, count_by, List, [], Option, Some, refl, sym, ap, ◌∙◌, subst, arith}
+use Rattle.std.proofs.Common.{◌≡◌, ℕ, ◌*◌, ◌/◌, ◌≤◌, ◌⊎◌, inl, inr, Bool, true, false, ◌&&◌, ◌||◌, nat_le, count_by, List, [], Option, Some, refl, sym, ap, ◌∙◌, arith}
 use Rattle.std.proofs.Math.Path.{fun_ext}
 use Rattle.std.proofs.lemmas.Bool.{eqb-true, eq-eqb, and_parts}
 use Rattle.bridge_cards.specs.declared.suit.Suit.{Suit}
@@ -9,11 +9,10 @@ use Rattle.bridge_cards.specs.Suit.{suit_number}
 use Rattle.bridge_cards.specs.Seat.{clockwise_from, side_of, plays_for}
 use Rattle.bridge_cards.specs.Card.{same_suit}
 use Rattle.bridge_cards.specs.CardSet.{has_card, is_of_suit, deck, card_count}
-use Rattle.bridge_cards.specs.Trick.{is_trump}
 use Rattle.bridge_endings.specs.Left.{left_to, is_sought}
 use Rattle.bridge_endings.specs.Agree.{IsDealtOut, IsUpward}
 use Rattle.bridge_endings.specs.SearchValue.{IsAnswer}
-use Rattle.bridge_endings.specs.Trumps.{held_of, NoneOfTheirs, HasEach, IsSettledBy, AreTopTrumps}
+use Rattle.bridge_endings.specs.Trumps.{NoneOfTheirs, HasEach, IsSettledBy, AreTopTrumps}
 use Rattle.bridge_endings.proofs.TrumpsThere.{trumps_settle}
 
 -- the cards of a set, counted

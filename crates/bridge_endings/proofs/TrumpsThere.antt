@@ -1,5 +1,5 @@
 -- Top trumps at each position that agrees with this one in the cards that count, and so what is settled by them.
-use Rattle.std.proofs.Common.{◌≡◌, ℕ, ◌+◌, ◌*◌, ◌/◌, ◌<◌, ◌≤◌, Bool, true, false, ◌&&◌, ◌||◌, ◌==◌, count_by, [], ◌∷◌, Option, refl, sym, ap, ◌∙◌, arith}
+use Rattle.std.proofs.Common.{◌≡◌, ℕ, ◌+◌, ◌*◌, ◌/◌, ◌<◌, Bool, true, false, ◌&&◌, ◌||◌, ◌==◌, count_by, [], ◌∷◌, Option, refl, sym, ap, ◌∙◌, arith}
 use Rattle.std.proofs.Math.Path.{fun_ext}
 use Rattle.std.proofs.lemmas.Bool.Decides.{nat_tests}
 use Rattle.bridge_cards.specs.declared.suit.Suit.{Suit}
@@ -10,7 +10,7 @@ use Rattle.bridge_cards.specs.CardSet.{deck}
 use Rattle.bridge_cards.proofs.CardCounts.{count_either}
 use Rattle.bridge_endings.specs.Left.{is_sought}
 use Rattle.bridge_endings.specs.Agree.{IsDealtOut, IsUpward, Agree, Settles}
-use Rattle.bridge_endings.specs.Trumps.{held_of, NoneOfTheirs, HasEach, IsSettledBy, AreTopTrumps}
+use Rattle.bridge_endings.specs.Trumps.{held_of, HasEach, IsSettledBy, AreTopTrumps}
 use Rattle.bridge_endings.proofs.Counting.{count_parts, counted_alike}
 use Rattle.bridge_endings.proofs.TopTrumps.{settled_more, tops_win}
 

@@ -7,7 +7,7 @@ use Rattle.bridge_endings.specs.declared.answer.Answer.{Answer}
 use Rattle.bridge_endings.specs.declared.found.Found.{Found}
 use Rattle.bridge_endings.specs.declared.found.Told.{Told}
 use Rattle.bridge_endings.specs.declared.found.Told.TheVariants.{Answer as TheAnswer, Open, Like, Other}
-use Rattle.bridge_endings.specs.declared.table.Entry.{Entry}
+use Rattle.bridge_endings.specs.declared.entry.Entry.{Entry}
 use Rattle.bridge_endings.specs.declared.search.Search.{Search}
 use Rattle.bridge_endings.specs.Worth.{dealt, worth_with}
 use Rattle.bridge_endings.specs.Agree.{IsDealtOut, IsUpward, Agree, Settles}
@@ -43,10 +43,14 @@ Tells trump cards need held leader Open = Unit {0}
 Tells trump cards need held leader Like = Unit {0}
 Tells trump cards need held leader Other = Unit {0}
 
+-- what was found is true, each part of the entry
+abbrev pub IsEntry : Entry → Type 0
+IsEntry entry = All IsFound entry.found
+
 -- a table has some entry, and what was found is true in each
 pub record IsTable (table : List Entry) : Type 0 where
   pub some : 0 < length table
-  pub found : All (λ entry. IsFound entry.found) table
+  pub found : All IsEntry table
 
 -- of no tricks none is won
 pub record IsNothing (found : Found) : Type 0 where

@@ -8,11 +8,12 @@ ghost use Rattle.bridge_endings.specs.SearchValue.{GoesOn, IsAnswer, IsTable};
 
 use crate::answer::{Answer, still_to_try, upwards};
 use crate::closed::{all_cards, cards_left, closed_hands, gaps, opened};
+use crate::entry::Entry;
 use crate::found::Found;
 use crate::like_hands::lengths_of;
 use crate::search::{Search, is_sought, legal_cards};
 use crate::sure_card::settled_by_one;
-use crate::table::{Entry, look_up, note};
+use crate::table::{look_up, note};
 use crate::trick::Trick;
 use bridge_cards::{Card, CardSet, Seat, Side};
 
@@ -154,13 +155,22 @@ impl Search {
     {
         let leader = trick.turn();
         let lengths = lengths_of(hands);
-        let known = look_up(table, hands, lengths, self.trump, leader, tricks, need);
+        let known = look_up(
+            table,
+            &self.heads,
+            hands,
+            lengths,
+            self.trump,
+            leader,
+            tricks,
+            need,
+        );
         if let Some(answer) = known.answer {
             return answer;
         }
         let answer = self.reaches(table, hands, left, trick, tricks, need, known.best);
         let found = Found::by(hands, lengths, self.trump, leader, tricks, need, &answer);
-        note(table, &found, known.place, &mut self.last);
+        note(table, &mut self.heads, &found, known.place, &mut self.last);
         answer
     }
 

@@ -7,6 +7,7 @@ ghost use Rattle.bridge_endings.specs.Worth.{may_be_played};
 ghost use Rattle.bridge_endings.specs.Left.{left_to, is_sought};
 ghost use Rattle.bridge_endings.specs.SearchValue.{GoesOn};
 
+use crate::heads::Heads;
 use crate::trick::Trick;
 use bridge_cards::{Card, CardSet, Seat, Side, Suit};
 
@@ -19,6 +20,8 @@ pub struct Search {
     pub tried: u64,
     /// Where in its table it put what it found last.
     pub last: u32,
+    /// Where the lists of its table begin.
+    pub heads: Heads,
 }
 
 impl Search {

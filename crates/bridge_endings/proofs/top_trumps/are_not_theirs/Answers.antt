@@ -1,4 +1,4 @@
-use Rattle.std.proofs.Common.{◌≡◌, ap, ◌∙◌}
+use Rattle.std.proofs.Common.{ap, ◌∙◌}
 use Rattle.bridge_cards.specs.CardSet.{has_card}
 use Rattle.bridge_cards.proofs.CardSetLaws.{has_card-zero}
 use Rattle.bridge_endings.proofs.TrumpsTested.{none_theirs}

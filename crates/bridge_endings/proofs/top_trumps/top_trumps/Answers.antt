@@ -1,4 +1,4 @@
-use Rattle.std.proofs.Common.{◌≡◌, rules, sym, ◌∙◌, arith}
+use Rattle.std.proofs.Common.{rules, arith}
 use Rattle.bridge_endings.proofs.TrumpsTested.{tops_are}
 use Rattle.bridge_endings.proofs.top_trumps.top_trumps.Goals as goal
 

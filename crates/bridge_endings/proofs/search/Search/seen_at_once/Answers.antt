@@ -1,4 +1,4 @@
-use Rattle.std.proofs.Common.{◌≡◌, ◌<◌, arith}
+use Rattle.std.proofs.Common.{arith}
 use Rattle.bridge_endings.proofs.Reached.{sure_answer}
 use Rattle.bridge_endings.proofs.search.Search.seen_at_once.Goals as goal
 

@@ -1,4 +1,4 @@
-use Rattle.std.proofs.Common.{◌≡◌, rules, sym, ◌∙◌, arith}
+use Rattle.std.proofs.Common.{rules}
 use Rattle.bridge_endings.proofs.TrumpsTested.{trumps_answer}
 use Rattle.bridge_endings.proofs.search.Search.settled_by_seat.Goals as goal
 
