@@ -4,9 +4,10 @@ use Rattle.bridge_cards.specs.declared.suit.Suit.{Suit}
 use Rattle.bridge_cards.specs.declared.seat.Seat.{Seat}
 use Rattle.bridge_cards.specs.CardSet.{has_card}
 use Rattle.bridge_endings.specs.declared.answer.Answer.{Answer}
+use Rattle.bridge_endings.specs.declared.asked.Asked.{Asked}
 use Rattle.bridge_endings.specs.declared.found.Found.{Found}
 use Rattle.bridge_endings.specs.declared.found.Told.{Told}
-use Rattle.bridge_endings.specs.declared.found.Told.TheVariants.{Answer as TheAnswer, Open, Like, Other}
+use Rattle.bridge_endings.specs.declared.found.Told.TheVariants.{Answer as TheAnswer, Open, Other}
 use Rattle.bridge_endings.specs.declared.entry.Entry.{Entry}
 use Rattle.bridge_endings.specs.declared.search.Search.{Search}
 use Rattle.bridge_endings.specs.Worth.{dealt, worth_with}
@@ -24,6 +25,10 @@ pub record IsAnswer (trump : Option Suit) (cards need : ℕ) (answer : Answer) (
   pub upward : IsUpward (has_card answer.counts)
   pub settled : Settles trump cards need (has_card answer.counts) answer.yes held leader trick
 
+-- the answer to what is asked of hands at the start of a trick
+abbrev pub IsAnswerTo : Asked → Answer → Type 0
+IsAnswerTo asked answer = IsAnswer asked.trump (4 * asked.tricks) asked.need answer (dealt asked.hands) asked.leader []
+
 -- what was found is true of each position that agrees with this one in the cards that counted: its bounds are
 abbrev pub IsTrueAt : Found → Option Suit → ℕ → (Seat → ℕ → Bool) → Seat → Type 0
 IsTrueAt found trump cards held leader =
@@ -40,7 +45,6 @@ pub record IsFound (found : Found) : Type 0 where
 abbrev pub Tells : Option Suit → ℕ → ℕ → (Seat → ℕ → Bool) → Seat → Told → Type 0
 Tells trump cards need held leader (TheAnswer answer) = IsAnswer trump cards need answer held leader []
 Tells trump cards need held leader Open = Unit {0}
-Tells trump cards need held leader Like = Unit {0}
 Tells trump cards need held leader Other = Unit {0}
 
 -- what was found is true, each part of the entry

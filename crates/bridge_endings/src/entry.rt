@@ -1,13 +1,12 @@
 //! Entries of a search's table: what was found of hands with the same lengths, four things side by side.
-ghost use Rattle.std.specs.Prelude.{◌≡◌, ◌*◌, ◌<◌, [], IfSome};
-ghost use Rattle.bridge_endings.specs.Worth.{dealt};
+ghost use Rattle.std.specs.Prelude.{◌≡◌, ◌<◌, IfSome};
 ghost use Rattle.bridge_endings.specs.Left.{all_lengths};
-ghost use Rattle.bridge_endings.specs.SearchValue.{IsAnswer, IsEntry, IsFound};
+ghost use Rattle.bridge_endings.specs.SearchValue.{IsAnswerTo, IsEntry, IsFound};
 
+use crate::asked::Asked;
 use crate::found::{Found, Told};
 use crate::known::Known;
 use crate::sign::{NO_SIGN, agrees, sign_of};
-use bridge_cards::{CardSet, Seat, Suit};
 
 /// Four things found, and the link of a list. Whatever it leads to is true of the hands that it names.
 #[derive(Clone, Copy)]
@@ -39,30 +38,21 @@ impl Entry {
         }
     }
 
-    /// What it knows of the hands with those lengths and those owners; the place is from 1 to 4.
-    pub fn tells(
-        &self,
-        owners: u64,
-        hands: &[CardSet; 4],
-        lengths: u64,
-        trump: Option<Suit>,
-        leader: Seat,
-        tricks: u8,
-        need: u8,
-    ) -> Known
+    /// What it knows of what is asked of hands with those owners; the place is from 1 to 4.
+    pub fn tells(&self, owners: u64, asked: &Asked) -> Known
         requires entry { IsEntry self.now }
-        requires lengths { lengths ≡ all_lengths hands.now }
-        ensures { IfSome result.answer (λ answer. IsAnswer trump (4 * tricks) need answer (dealt hands.now) leader []) }
+        requires lengths { asked.now.lengths ≡ all_lengths asked.now.hands }
+        ensures { IfSome result.answer (IsAnswerTo asked.now) }
     {
         let (mut best, mut place) = (self.found[0].best, 0);
         for index in 0..4_u32 {
             let at = index as usize;
             if agrees(self.signs[at], owners) {
                 let found = &self.found[at];
-                match found.tells(hands, lengths, trump, leader, tricks, need) {
+                match found.tells(asked) {
                     Told::Answer(answer) => return Known::answered(answer, index + 1),
                     Told::Open => (best, place) = (found.best, index + 1),
-                    Told::Like | Told::Other => {}
+                    Told::Other => {}
                 }
             }
         }

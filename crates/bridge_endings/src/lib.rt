@@ -9,6 +9,7 @@
 #![tactic(auto)]
 
 mod answer;
+mod asked;
 mod bounds;
 pub mod cache;
 pub mod card_cost;

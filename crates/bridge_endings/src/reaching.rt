@@ -7,6 +7,7 @@ ghost use Rattle.bridge_endings.specs.Agree.{IsDealtOut};
 ghost use Rattle.bridge_endings.specs.SearchValue.{GoesOn, IsAnswer, IsTable};
 
 use crate::answer::{Answer, still_to_try, upwards};
+use crate::asked::Asked;
 use crate::closed::{all_cards, cards_left, closed_hands, gaps, opened};
 use crate::entry::Entry;
 use crate::found::Found;
@@ -153,23 +154,20 @@ impl Search {
         ensures later { GoesOn self.old self.new }
         ensures table { IsTable table.new }
     {
-        let leader = trick.turn();
-        let lengths = lengths_of(hands);
-        let known = look_up(
-            table,
-            &self.heads,
-            hands,
-            lengths,
-            self.trump,
-            leader,
+        let asked = Asked {
+            hands: *hands,
+            lengths: lengths_of(hands),
+            trump: self.trump,
+            leader: trick.turn(),
             tricks,
             need,
-        );
+        };
+        let known = look_up(table, &self.heads, &asked);
         if let Some(answer) = known.answer {
             return answer;
         }
         let answer = self.reaches(table, hands, left, trick, tricks, need, known.best);
-        let found = Found::by(hands, lengths, self.trump, leader, tricks, need, &answer);
+        let found = Found::by(&asked, &answer);
         note(table, &mut self.heads, &found, known.place, &mut self.last);
         answer
     }

@@ -1,15 +1,15 @@
 //! The table of a search: what it has found, in lists of what is alike.
-ghost use Rattle.std.specs.Prelude.{◌≡◌, ◌*◌, ◌<◌, [], IfSome};
-ghost use Rattle.bridge_endings.specs.Worth.{dealt};
+ghost use Rattle.std.specs.Prelude.{◌≡◌, IfSome};
 ghost use Rattle.bridge_endings.specs.Left.{all_lengths};
-ghost use Rattle.bridge_endings.specs.SearchValue.{IsAnswer, IsFound, IsTable};
+ghost use Rattle.bridge_endings.specs.SearchValue.{IsAnswerTo, IsFound, IsTable};
 
+use crate::asked::Asked;
 use crate::entry::Entry;
 use crate::found::Found;
 use crate::heads::Heads;
 use crate::known::Known;
 use crate::sign::{counted_owners, key_of, mixed, owners_of, top_owners};
-use bridge_cards::{Card, CardSet, Seat, Suit};
+use bridge_cards::Card;
 
 /// How many entries the table of an ending has; it lies on the stack.
 pub const ENTRIES: usize = 112;
@@ -38,34 +38,25 @@ pub fn empty_table() -> [Entry; ENTRIES]
     [Entry::of(Found::nothing()); ENTRIES]
 }
 
-/// What the table knows of the hands with those lengths. Of what was found a part is listed by who has the highest card of each
+/// What the table knows of what is asked. Of what was found a part is listed by who has the highest card of each
 /// suit, and the rest, where not all of these counted, is not.
-pub fn look_up(
-    table: &mut [Entry],
-    heads: &Heads,
-    hands: &[CardSet; 4],
-    lengths: u64,
-    trump: Option<Suit>,
-    leader: Seat,
-    tricks: u8,
-    need: u8,
-) -> Known
+pub fn look_up(table: &mut [Entry], heads: &Heads, asked: &Asked) -> Known
     requires table { IsTable table.old }
-    requires lengths { lengths ≡ all_lengths hands.now }
-    ensures answer { IfSome result.answer (λ answer. IsAnswer trump (4 * tricks) need answer (dealt hands.now) leader []) }
+    requires lengths { asked.now.lengths ≡ all_lengths asked.now.hands }
+    ensures answer { IfSome result.answer (IsAnswerTo asked.now) }
     ensures table { IsTable table.new }
 {
-    let key = key_of(lengths, trump, leader);
-    let owners = owners_of(hands);
-    let first = heads.first(heads.slot(mixed(key, top_owners(hands))));
+    let key = key_of(asked.lengths, asked.trump, asked.leader);
+    let owners = owners_of(&asked.hands);
+    let first = heads.first(heads.slot(mixed(key, top_owners(&asked.hands))));
     let sought = Sought { first, key, owners };
-    let known = look_in(table, sought, hands, lengths, trump, leader, tricks, need);
+    let known = look_in(table, sought, asked);
     if known.answer.is_some() {
         return known;
     }
     let first = heads.first(heads.slot(mixed(key, 0)));
     let sought = Sought { first, key, owners };
-    let more = look_in(table, sought, hands, lengths, trump, leader, tricks, need);
+    let more = look_in(table, sought, asked);
     if more.answer.is_some() || more.place != 0 {
         return more;
     }
@@ -73,19 +64,10 @@ pub fn look_up(
 }
 
 /// The same of one list. What tells the answer comes into the first entry of it.
-fn look_in(
-    table: &mut [Entry],
-    sought: Sought,
-    hands: &[CardSet; 4],
-    lengths: u64,
-    trump: Option<Suit>,
-    leader: Seat,
-    tricks: u8,
-    need: u8,
-) -> Known
+fn look_in(table: &mut [Entry], sought: Sought, asked: &Asked) -> Known
     requires table { IsTable table.old }
-    requires lengths { lengths ≡ all_lengths hands.now }
-    ensures answer { IfSome result.answer (λ answer. IsAnswer trump (4 * tricks) need answer (dealt hands.now) leader []) }
+    requires lengths { asked.now.lengths ≡ all_lengths asked.now.hands }
+    ensures answer { IfSome result.answer (IsAnswerTo asked.now) }
     ensures table { IsTable table.new }
 {
     let (mut best, mut place, mut strays) = (None, 0, 0);
@@ -96,15 +78,7 @@ fn look_in(
             break;
         }
         if table[index].key == sought.key {
-            let known = table[index].tells(
-                sought.owners,
-                hands,
-                lengths,
-                trump,
-                leader,
-                tricks,
-                need,
-            );
+            let known = table[index].tells(sought.owners, asked);
             if known.answer.is_some() {
                 to_front(table, sought.first as usize, index, known.place);
                 return known;
