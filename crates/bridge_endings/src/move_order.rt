@@ -8,8 +8,8 @@ use crate::trick::Trick;
 use bridge_cards::{Card, CardSet, SUIT_CARDS, Suit};
 
 impl Search {
-    /// The card to try first of those that may be played, if it is clear at once: to a trick that is led to by what the other
-    /// hands have, and else the card that was best before, if one was. None where there is no choice.
+    /// The card to try first of those that may be played, by what the other hands have; none where there is no choice. To lead,
+    /// it is the card that was best before, if one was.
     pub fn first_card(
         &self,
         hands: &[CardSet; 4],
@@ -22,7 +22,7 @@ impl Search {
             return CardSet::new();
         }
         let first = match trick.led() {
-            None => best,
+            None => Some(self.lead(hands, left, cards, trick, &best)),
             Some(led) => self.follow(hands, left, cards, trick, led),
         };
         first.map_or(CardSet::new(), |card| CardSet::new().with(card))
@@ -50,6 +50,24 @@ impl Search {
         }
         let leads = self.leads(hands, left, trick.turn());
         Some(leads.first(cards, lowest))
+    }
+
+    /// The card to lead: the one that was best before, if one was.
+    fn lead(
+        &self,
+        hands: &[CardSet; 4],
+        left: CardSet,
+        cards: CardSet,
+        trick: &Trick,
+        best: &Option<Card>,
+    ) -> Card {
+        match best {
+            Some(best) => *best,
+            None => match cards.lowest() {
+                Some(lowest) => self.leads(hands, left, trick.turn()).first(cards, lowest),
+                None => Card::default(),
+            },
+        }
     }
 
     /// The card to follow with: the lowest that wins so far and that the next hand cannot beat, otherwise the lowest that wins so

@@ -25,6 +25,11 @@ impl Search {
         requires { IsDealtOut (left_to hands.now left) }
         ensures { IfSome result (λ answer. (leader : Seat) → IsAnswer self.now.trump (4 * tricks) need answer (left_to hands.now left) leader []) }
     {
+        let trumps = left.of_suit(self.trump?).len();
+        let few = need.min(tricks.saturating_add(1).saturating_sub(need));
+        if trumps < usize::from(few) {
+            return None;
+        }
         for seat in Seat::ALL {
             if let Some(answer) = self.settled_by_seat(hands, left, seat, tricks, need) {
                 return Some(answer);
