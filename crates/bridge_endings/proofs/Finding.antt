@@ -14,12 +14,12 @@ use Rattle.bridge_cards.proofs.SuitHeld.{is_of_suit-card_suit}
 use Rattle.bridge_endings.specs.declared.answer.Answer.{Answer}
 use Rattle.bridge_endings.specs.declared.bounds.Bounds.{Bounds}
 use Rattle.bridge_endings.specs.declared.found.Found.{Found}
-use Rattle.bridge_endings.specs.declared.table.Entry.{Entry}
+use Rattle.bridge_endings.specs.declared.entry.Entry.{Entry}
 use Rattle.bridge_endings.specs.Between.{IsBounded}
 use Rattle.bridge_endings.specs.Worth.{dealt, worth_with}
 use Rattle.bridge_endings.specs.Left.{suit_length, all_lengths, AreAsLong, HoldAlike}
 use Rattle.bridge_endings.specs.Agree.{IsDealtOut, Agree, Settles}
-use Rattle.bridge_endings.specs.SearchValue.{IsAnswer, IsFound, IsTable, IsNothing}
+use Rattle.bridge_endings.specs.SearchValue.{IsAnswer, IsFound, IsEntry, IsTable, IsNothing}
 use Rattle.bridge_endings.proofs.WorthSteps.{worth_with_le}
 use Rattle.bridge_endings.proofs.Agreeing.{agree_then}
 use Rattle.bridge_endings.proofs.Counting.{count_parts, counted_alike}
@@ -98,19 +98,23 @@ nothing_found found is = record {
 }
 
 -- a table in which each entry is that one
-pub nothing_table : (count : ℕ) → 0 < count → (entry : Entry) → IsFound entry.found → (table : List Entry) → table ≡ replicate count entry → IsTable table
+pub nothing_table : (count : ℕ) → 0 < count → (entry : Entry) → IsEntry entry → (table : List Entry) → table ≡ replicate count entry → IsTable table
 nothing_table count some entry is table all = record {
   some = subst (λ xs. 0 < length xs) (sym all) (subst (λ n. 0 < n) (sym (length-replicate count entry)) some);
-  found = subst (All (λ e. IsFound e.found)) (sym all) (All-replicate (λ e. IsFound e.found) count entry is);
+  found = subst (All IsEntry) (sym all) (All-replicate IsEntry count entry is);
 }
 
 -- a table with another entry in which what was found is true
-pub table_set : (table : List Entry) (place : ℕ) (entry : Entry) → IsTable table → IsFound entry.found → IsTable (slice_set table place entry)
+pub table_set : (table : List Entry) (place : ℕ) (entry : Entry) → IsTable table → IsEntry entry → IsTable (slice_set table place entry)
 table_set table place entry is found = record {
   some = omega (arith, is.some, length-set table place entry);
-  found = All-set (λ e. IsFound e.found) table place entry found is.found;
+  found = All-set IsEntry table place entry found is.found;
 }
 
 -- what was found is true in the entry at a place
-pub table_at : (table : List Entry) (place : ℕ) (otherwise : Entry) → IsTable table → place < length table → IsFound (slice_index_or table place otherwise).found
-table_at table place otherwise is within = All-get_or (λ e. IsFound e.found) table place otherwise within is.found
+pub table_at : (table : List Entry) (place : ℕ) (otherwise : Entry) → IsTable table → place < length table → IsEntry (slice_index_or table place otherwise)
+table_at table place otherwise is within = All-get_or IsEntry table place otherwise within is.found
+
+-- what was found, with another thing that is true
+pub found_set : (parts : List Found) (place : ℕ) (found : Found) → All IsFound parts → IsFound found → All IsFound (slice_set parts place found)
+found_set parts place found are is = All-set IsFound parts place found is are

@@ -27,3 +27,7 @@ pub mod SameBest
 pub mod Renamed
 pub mod SureTrick
 pub mod SureCard
+pub mod TrumpTrick
+pub mod TopTrumps
+pub mod TrumpsThere
+pub mod TrumpsTested

@@ -6,7 +6,7 @@ use Rattle.bridge_cards.specs.declared.seat.Side.{Side}
 use Rattle.bridge_cards.specs.declared.seat.Side.TheVariants.{NorthSouth, EastWest}
 use Rattle.bridge_cards.specs.Seat.{clockwise_from, side_of}
 use Rattle.bridge_cards.specs.Deal.{IsDeal}
-use Rattle.bridge_endings.specs.declared.table.Entry.{Entry}
+use Rattle.bridge_endings.specs.declared.entry.Entry.{Entry}
 use Rattle.bridge_endings.specs.Worth.{dealt, worth_with}
 use Rattle.bridge_endings.specs.SearchValue.{IsTable}
 

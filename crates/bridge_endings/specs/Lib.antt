@@ -5,6 +5,7 @@ pub mod TrickValue
 pub mod Left
 pub mod Agree
 pub mod Sure
+pub mod Trumps
 pub mod Closed
 pub mod Between
 pub mod SearchValue

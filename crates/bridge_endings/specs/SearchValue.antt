@@ -4,10 +4,11 @@ use Rattle.bridge_cards.specs.declared.suit.Suit.{Suit}
 use Rattle.bridge_cards.specs.declared.seat.Seat.{Seat}
 use Rattle.bridge_cards.specs.CardSet.{has_card}
 use Rattle.bridge_endings.specs.declared.answer.Answer.{Answer}
+use Rattle.bridge_endings.specs.declared.asked.Asked.{Asked}
 use Rattle.bridge_endings.specs.declared.found.Found.{Found}
 use Rattle.bridge_endings.specs.declared.found.Told.{Told}
-use Rattle.bridge_endings.specs.declared.found.Told.TheVariants.{Answer as TheAnswer, Open, Like, Other}
-use Rattle.bridge_endings.specs.declared.table.Entry.{Entry}
+use Rattle.bridge_endings.specs.declared.found.Told.TheVariants.{Answer as TheAnswer, Open, Other}
+use Rattle.bridge_endings.specs.declared.entry.Entry.{Entry}
 use Rattle.bridge_endings.specs.declared.search.Search.{Search}
 use Rattle.bridge_endings.specs.Worth.{dealt, worth_with}
 use Rattle.bridge_endings.specs.Agree.{IsDealtOut, IsUpward, Agree, Settles}
@@ -23,6 +24,10 @@ pub record GoesOn (old new : Search) : Type 0 where
 pub record IsAnswer (trump : Option Suit) (cards need : ℕ) (answer : Answer) (held : Seat → ℕ → Bool) (leader : Seat) (trick : List ℕ) : Type 0 where
   pub upward : IsUpward (has_card answer.counts)
   pub settled : Settles trump cards need (has_card answer.counts) answer.yes held leader trick
+
+-- the answer to what is asked of hands at the start of a trick
+abbrev pub IsAnswerTo : Asked → Answer → Type 0
+IsAnswerTo asked answer = IsAnswer asked.trump (4 * asked.tricks) asked.need answer (dealt asked.hands) asked.leader []
 
 -- what was found is true of each position that agrees with this one in the cards that counted: its bounds are
 abbrev pub IsTrueAt : Found → Option Suit → ℕ → (Seat → ℕ → Bool) → Seat → Type 0
@@ -40,13 +45,16 @@ pub record IsFound (found : Found) : Type 0 where
 abbrev pub Tells : Option Suit → ℕ → ℕ → (Seat → ℕ → Bool) → Seat → Told → Type 0
 Tells trump cards need held leader (TheAnswer answer) = IsAnswer trump cards need answer held leader []
 Tells trump cards need held leader Open = Unit {0}
-Tells trump cards need held leader Like = Unit {0}
 Tells trump cards need held leader Other = Unit {0}
+
+-- what was found is true, each part of the entry
+abbrev pub IsEntry : Entry → Type 0
+IsEntry entry = All IsFound entry.found
 
 -- a table has some entry, and what was found is true in each
 pub record IsTable (table : List Entry) : Type 0 where
   pub some : 0 < length table
-  pub found : All (λ entry. IsFound entry.found) table
+  pub found : All IsEntry table
 
 -- of no tricks none is won
 pub record IsNothing (found : Found) : Type 0 where

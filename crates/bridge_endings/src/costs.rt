@@ -8,9 +8,9 @@ ghost use Rattle.bridge_endings.specs.PlayedCards.{seen, IsMoment, IsNoBetter, f
 
 use crate::bounds::{Bounds, narrowed};
 use crate::card_cost::{CardCost, given_away};
+use crate::entry::Entry;
 use crate::moment::Moment;
 use crate::search::Search;
-use crate::table::Entry;
 use arrayvec::ArrayVec;
 use bridge_cards::{Card, CardSet, DECK, Seat, Side};
 

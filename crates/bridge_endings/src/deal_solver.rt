@@ -7,10 +7,11 @@ ghost use Rattle.bridge_endings.specs.PlayedCards.{first_moment, are_legal, tric
 
 use crate::card_cost::CardCost;
 use crate::costs::{costs_in_all, won_from};
+use crate::entry::Entry;
 use crate::found::Found;
+use crate::heads::Heads;
 use crate::search::Search;
 use crate::solver::tricks_won;
-use crate::table::Entry;
 use arrayvec::ArrayVec;
 use bridge_cards::{Card, CardSet, DECK, Deal, Seat, Side, Suit};
 use std::alloc::{AllocError, Global};
@@ -21,8 +22,7 @@ use std::marker::Model;
 pub struct DealSolver {
     hands: [CardSet; 4],
     table: Vec<Entry>,
-    /// Where in it stands what was found last.
-    last: u32,
+    search: Search,
     /// How many tricks North and South won in what was asked last.
     won: u8,
 }
@@ -39,17 +39,23 @@ impl Model for DealSolver {
 }
 
 impl DealSolver {
-    /// How many entries its table has, of 64 bytes each: 32 MiB.
-    pub const ENTRIES: usize = 524_288;
+    /// How many entries its table has, of 272 bytes each; with the places where its lists begin they take 32 MiB.
+    pub const ENTRIES: usize = 114_688;
 
     /// A solver of that deal. Its memory is taken here, once.
     pub fn new(alloc: Global, deal: &Deal) -> Result<DealSolver, AllocError>
         ensures { IfOk result (λ solver. solver ≡ deal.now) }
     {
+        let heads = Heads::many(alloc)?;
         Ok(DealSolver {
             hands: deal.hands(),
             table: vec![in alloc; Entry::of(Found::nothing()); DealSolver::ENTRIES]?,
-            last: 0,
+            search: Search {
+                trump: None,
+                tried: 0,
+                last: 0,
+                heads,
+            },
             won: 7,
         })
     }
@@ -61,21 +67,16 @@ impl DealSolver {
         ensures few { result ≤ 13 }
         ensures deal { self.new ≡ self.old }
     {
-        let mut search = Search {
-            trump,
-            tried: 0,
-            last: self.last,
-        };
+        self.search.trump = trump;
         let hands = self.hands;
         let won = tricks_won(
-            &mut search,
+            &mut self.search,
             &mut self.table,
             &hands,
             declarer.left(),
             13,
             self.won,
         );
-        self.last = search.last;
         self.won = won;
         match declarer.side() {
             Side::NorthSouth => won,
@@ -95,21 +96,16 @@ impl DealSolver {
         ensures none { IsNone result ↔ (are_legal trump (first_moment self.old declarer) cards.now ≡ false) }
         ensures deal { self.new ≡ self.old }
     {
-        let mut search = Search {
-            trump,
-            tried: 0,
-            last: self.last,
-        };
+        self.search.trump = trump;
         let hands = self.hands;
         let won = won_from(
-            &mut search,
+            &mut self.search,
             &mut self.table,
             &hands,
             declarer,
             cards,
             self.won,
         )?;
-        self.last = search.last;
         self.won = won;
         Some(tricks_of(declarer.side(), won))
     }
@@ -128,21 +124,16 @@ impl DealSolver {
         ensures none { IsNone result ↔ (are_legal trump (first_moment self.old declarer) cards.now ≡ false) }
         ensures deal { self.new ≡ self.old }
     {
-        let mut search = Search {
-            trump,
-            tried: 0,
-            last: self.last,
-        };
+        self.search.trump = trump;
         let hands = self.hands;
         let costs = costs_in_all(
-            &mut search,
+            &mut self.search,
             &mut self.table,
             &hands,
             declarer,
             cards,
             self.won,
         );
-        self.last = search.last;
         costs
     }
 }

@@ -2,9 +2,10 @@
 ghost use Rattle.std.specs.Prelude.{◌≡◌, ◌*◌, ◌<◌, [], IsTrue, IfSome};
 ghost use Rattle.bridge_endings.specs.Worth.{dealt};
 ghost use Rattle.bridge_endings.specs.Left.{all_lengths};
-ghost use Rattle.bridge_endings.specs.SearchValue.{IsAnswer, IsFound, IsNothing, IsTrueAt, Tells};
+ghost use Rattle.bridge_endings.specs.SearchValue.{IsAnswerTo, IsFound, IsNothing, IsTrueAt, Tells};
 
 use crate::answer::Answer;
+use crate::asked::Asked;
 use crate::bounds::{Bounds, narrowed};
 use crate::like_hands::{hold_alike, lengths_of};
 use bridge_cards::{Card, CardSet, Seat, Suit};
@@ -16,8 +17,6 @@ pub enum Told {
     Answer(Answer),
     /// That it is open: its bounds are true of the hands, and do not settle it.
     Open,
-    /// Nothing: it is of other hands that have as many cards of each suit.
-    Like,
     /// Nothing: it is of others.
     Other,
 }
@@ -61,61 +60,48 @@ impl Found {
         }
     }
 
-    /// What an answer tells of the hands.
-    pub fn by(
-        hands: &[CardSet; 4],
-        lengths: u64,
-        trump: Option<Suit>,
-        leader: Seat,
-        tricks: u8,
-        need: u8,
-        answer: &Answer,
-    ) -> Found
-        requires some { 0 < need }
-        requires lengths { lengths ≡ all_lengths hands.now }
-        requires answer { IsAnswer trump (4 * tricks) need answer.now (dealt hands.now) leader [] }
+    /// What an answer tells of the hands of which it was asked.
+    pub fn by(asked: &Asked, answer: &Answer) -> Found
+        requires some { 0 < asked.now.need }
+        requires lengths { asked.now.lengths ≡ all_lengths asked.now.hands }
+        requires answer { IsAnswerTo asked.now answer.now }
         ensures { IsFound result }
     {
         let none = Bounds {
             least: 0,
-            most: tricks,
+            most: asked.tricks,
         };
         Found {
-            hands: *hands,
+            hands: asked.hands,
             counts: answer.counts,
-            lengths,
-            trump,
-            leader,
-            tricks,
-            bounds: narrowed(none, need, answer.yes),
+            lengths: asked.lengths,
+            trump: asked.trump,
+            leader: asked.leader,
+            tricks: asked.tricks,
+            bounds: narrowed(none, asked.need, answer.yes),
             best: answer.best,
         }
     }
 
-    /// What it tells of the hands.
-    pub fn tells(
-        &self,
-        hands: &[CardSet; 4],
-        lengths: u64,
-        trump: Option<Suit>,
-        leader: Seat,
-        tricks: u8,
-        need: u8,
-    ) -> Told
+    /// What it tells of what is asked.
+    pub fn tells(&self, asked: &Asked) -> Told
         requires found { IsFound self.now }
-        requires lengths { lengths ≡ all_lengths hands.now }
-        ensures { Tells trump (4 * tricks) need (dealt hands.now) leader result }
+        requires lengths { asked.now.lengths ≡ all_lengths asked.now.hands }
+        ensures { Tells asked.now.trump (4 * asked.now.tricks) asked.now.need (dealt asked.now.hands) asked.now.leader result }
     {
-        if self.lengths != lengths {
+        if !self.is_of(
+            &asked.hands,
+            asked.lengths,
+            asked.trump,
+            asked.leader,
+            asked.tricks,
+        ) {
             return Told::Other;
         }
-        if !self.is_of(hands, lengths, trump, leader, tricks) {
-            return Told::Like;
-        }
-        if need <= self.bounds.least {
+        if asked.need <= self.bounds.least {
             return Told::Answer(self.answer(true));
         }
-        if need > self.bounds.most {
+        if asked.need > self.bounds.most {
             return Told::Answer(self.answer(false));
         }
         Told::Open

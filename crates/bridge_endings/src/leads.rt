@@ -146,8 +146,3 @@ impl Search {
                 .is_some_and(|trump| !hand.of_suit(trump).is_empty())
     }
 }
-
-/// How much a card of a suit is worth more, since it is lower among those left than by its rank.
-fn gone_worth(cards: CardSet) -> i16 {
-    8 * (13 - cards.len().min(13) as i16)
-}

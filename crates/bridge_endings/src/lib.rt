@@ -9,6 +9,7 @@
 #![tactic(auto)]
 
 mod answer;
+mod asked;
 mod bounds;
 pub mod cache;
 pub mod card_cost;
@@ -16,16 +17,21 @@ mod closed;
 mod costs;
 pub mod deal_solver;
 pub mod ending;
+mod entry;
 mod found;
+mod heads;
+mod known;
 mod leads;
 mod like_hands;
 mod moment;
 mod move_order;
 mod reaching;
 mod search;
+mod sign;
 pub mod solver;
 mod sure_card;
 mod table;
+mod top_trumps;
 mod trick;
 
 pub use cache::Cache;

@@ -1,66 +1,108 @@
 //! Which card is tried first. Any order gives the same answer; a good one gives it sooner.
-ghost use Rattle.std.specs.Prelude.{◌≡◌, ◌<◌, ◌↔◌, ℕ, true, IsTrue, IsNone, IfSome};
+ghost use Rattle.std.specs.Prelude.{◌≡◌, ◌↔◌, ℕ, IsTrue, IsNone, IfSome};
 ghost use Rattle.bridge_cards.specs.Card.{IsCard};
 ghost use Rattle.bridge_cards.specs.CardSet.{has_card};
 
-use crate::leads::Leads;
 use crate::search::{Search, held};
 use crate::trick::Trick;
 use bridge_cards::{Card, CardSet, SUIT_CARDS, Suit};
 
-/// What is seen of the other hands before a card is played.
-#[derive(Clone, Copy)]
-pub struct Seen {
-    /// The card that was best before, if one was.
-    pub best: CardSet,
-    /// How good it is to lead each suit, if a card is to be led.
-    pub leads: Leads,
-    /// The best card of the next hand, if it is an opponent's and would win so far.
-    pub next: Option<Card>,
-    /// Whether the partner, who plays last, beats that and what wins so far.
-    pub partner: bool,
-}
-
-impl Seen {
-    /// What is seen where there is no choice.
-    pub fn nothing() -> Seen {
-        Seen {
-            best: CardSet::new(),
-            leads: Leads::none(),
-            next: None,
-            partner: false,
-        }
-    }
-}
-
 impl Search {
-    /// What is seen of the other hands before one of the cards is played to the trick; nothing where there is no choice.
-    pub fn seen(
+    /// The card to try first of those that may be played, by what the other hands have; none where there is no choice. To lead,
+    /// it is the card that was best before, if one was.
+    pub fn first_card(
         &self,
         hands: &[CardSet; 4],
         left: CardSet,
         cards: CardSet,
         trick: &Trick,
         best: Option<Card>,
-    ) -> Seen {
-        let mut seen = Seen::nothing();
+    ) -> CardSet {
         if !is_choice(cards) {
-            return seen;
+            return CardSet::new();
         }
-        match trick.led() {
-            None => {
-                seen.best = best.map_or(CardSet::new(), |card| CardSet::new().with(card));
-                seen.leads = self.leads(hands, left, trick.turn());
-            }
-            Some(led) => {
-                seen.next = self.best_of_next(hands, left, trick, led);
-                seen.partner = self.partner_beats(hands, left, trick, led, seen.next);
-            }
-        }
-        seen
+        let first = match trick.led() {
+            None => Some(self.lead(hands, left, cards, trick, &best)),
+            Some(led) => self.follow(hands, left, cards, trick, led),
+        };
+        first.map_or(CardSet::new(), |card| CardSet::new().with(card))
     }
 
-    /// The best card that the next hand may play to the trick, if it would win so far; the leader has played already.
+    /// One of the cards, the one that the hand in turn tries next: the first card if it is among them, or else the best to lead,
+    /// or the lowest where it does not lead; `None` where there is none.
+    pub fn next_card(
+        &self,
+        hands: &[CardSet; 4],
+        left: CardSet,
+        cards: CardSet,
+        trick: &Trick,
+        first: CardSet,
+    ) -> Option<Card>
+        ensures card { IfSome result (λ card. IsCard card × IsTrue (has_card cards card)) }
+        ensures none { IsNone result ↔ (cards ≡ 0) }
+    {
+        let lowest = cards.lowest()?;
+        if let Some(first) = cards.intersection(first).lowest() {
+            return Some(first);
+        }
+        if trick.len() > 0 || cards.without(lowest).is_empty() {
+            return Some(lowest);
+        }
+        let leads = self.leads(hands, left, trick.turn());
+        Some(leads.first(cards, lowest))
+    }
+
+    /// The card to lead: the one that was best before, if one was.
+    fn lead(
+        &self,
+        hands: &[CardSet; 4],
+        left: CardSet,
+        cards: CardSet,
+        trick: &Trick,
+        best: &Option<Card>,
+    ) -> Card {
+        match best {
+            Some(best) => *best,
+            None => match cards.lowest() {
+                Some(lowest) => self.leads(hands, left, trick.turn()).first(cards, lowest),
+                None => Card::default(),
+            },
+        }
+    }
+
+    /// The card to follow with: the lowest that wins so far and that the next hand cannot beat, otherwise the lowest that wins so
+    /// far; a low card where none wins, or where the partner wins or is going to.
+    fn follow(
+        &self,
+        hands: &[CardSet; 4],
+        left: CardSet,
+        cards: CardSet,
+        trick: &Trick,
+        led: Card,
+    ) -> Option<Card> {
+        let winners = trick.winners(cards);
+        if winners.is_empty() || trick.len() == 3 && trick.partner_wins() {
+            return low_card(cards, led);
+        }
+        if trick.len() == 3 {
+            return winners.lowest();
+        }
+        let next = self.best_of_next(hands, left, trick, led);
+        let losers = cards.difference(winners);
+        if self.partner_beats(hands, left, trick, led, &next) && !losers.is_empty() {
+            return low_card(losers, led);
+        }
+        let safe = match &next {
+            Some(next) => cards.intersection(trick.beating(*next)).lowest(),
+            None => None,
+        };
+        if safe.is_none() && trick.partner_wins() {
+            return low_card(cards, led);
+        }
+        safe.or(winners.lowest())
+    }
+
+    /// The best card that the next hand may play to the trick, if it would win so far.
     fn best_of_next(
         &self,
         hands: &[CardSet; 4],
@@ -68,43 +110,27 @@ impl Search {
         trick: &Trick,
         led: Card,
     ) -> Option<Card> {
-        if trick.len() > 2 {
-            return None;
-        }
         let next = held(hands, left, trick.turn().left());
-        let best = self.best_of(next, led)?;
-        if trick.is_beaten_by(best) {
-            Some(best)
-        } else {
-            None
-        }
+        trick.winners(playable(next, led)).highest()
     }
 
-    /// Whether the partner of the second hand has a card that beats what wins so far and the best card of the hand between.
+    /// Whether the partner of the second hand has a card that wins so far and beats the best card of the hand between.
     fn partner_beats(
         &self,
         hands: &[CardSet; 4],
         left: CardSet,
         trick: &Trick,
         led: Card,
-        next: Option<Card>,
+        next: &Option<Card>,
     ) -> bool {
         if trick.len() != 1 {
             return false;
         }
         let partner = held(hands, left, trick.turn().partner());
-        let Some(best) = self.best_of(partner, led) else {
-            return false;
-        };
-        let other = next.unwrap_or(trick.winning_card());
-        !trick.winners(CardSet::new().with(best), other).is_empty()
-    }
-
-    /// The best card that a hand may play where that card is led: of its suit the highest, or else the highest trump.
-    fn best_of(&self, hand: CardSet, led: Card) -> Option<Card> {
-        match hand.of_suit(led.suit()).highest() {
-            Some(card) => Some(card),
-            None => hand.of_suit(self.trump?).highest(),
+        let best = trick.winners(playable(partner, led));
+        match next {
+            None => !best.is_empty(),
+            Some(next) => !best.intersection(trick.beating(*next)).is_empty(),
         }
     }
 }
@@ -116,60 +142,18 @@ fn is_choice(cards: CardSet) -> bool {
         .is_some_and(|card| !cards.without(card).is_empty())
 }
 
-/// One of the cards, the one that the hand in turn tries first; `None` where there is none.
-pub fn next_card(cards: CardSet, trick: &Trick, seen: &Seen) -> Option<Card>
-    ensures card { IfSome result (λ card. IsCard card × IsTrue (has_card cards card)) }
-    ensures none { IsNone result ↔ (cards ≡ 0) }
-{
-    let lowest = cards.lowest()?;
-    if cards.without(lowest).is_empty() {
-        return Some(lowest);
-    }
-    if let Some(best) = cards.intersection(seen.best).lowest() {
-        return Some(best);
-    }
-    let Some(led) = trick.led() else {
-        return Some(seen.leads.first(cards, lowest));
-    };
-    let losers = cards.difference(trick.winners(cards, trick.winning_card()));
-    if seen.partner
-        && let Some(loser) = losers.lowest()
-    {
-        return Some(low_card(losers, loser, led));
-    }
-    match lowest_winner(cards, trick, seen.next) {
-        Some(card) => Some(card),
-        None => Some(low_card(cards, lowest, led)),
-    }
+/// The cards of a hand that may be played where that card is led.
+fn playable(hand: CardSet, led: Card) -> CardSet {
+    let suited = hand.of_suit(led.suit());
+    if suited.is_empty() { hand } else { suited }
 }
 
-/// The lowest card that wins so far and that the next hand cannot beat, otherwise the lowest that wins so far; none where
-/// the partner wins already and the next hand cannot beat it, or no card stops that.
-fn lowest_winner(cards: CardSet, trick: &Trick, next: Option<Card>) -> Option<Card>
-    ensures { IfSome result (λ card. IsCard card × IsTrue (has_card cards card)) }
-{
-    if let Some(next) = next
-        && let Some(card) = trick.winners(cards, next).lowest()
-    {
+/// The lowest of the cards of the suit led, or else the lowest of a suit with many low cards.
+fn low_card(cards: CardSet, led: Card) -> Option<Card> {
+    if let Some(card) = cards.of_suit(led.suit()).lowest() {
         return Some(card);
     }
-    if trick.partner_wins() {
-        None
-    } else {
-        trick.winners(cards, trick.winning_card()).lowest()
-    }
-}
-
-/// The lowest of the cards, where they are of the suit led, or else the lowest of a suit with many low cards; the other card
-/// is the lowest of them.
-fn low_card(cards: CardSet, other: Card, led: Card) -> Card
-    requires { IsCard other × IsTrue (has_card cards other) }
-    ensures { IsCard result × IsTrue (has_card cards result) }
-{
-    if other.suit() == led.suit() {
-        return other;
-    }
-    let mut low = other;
+    let mut low = None;
     let mut most = i16::MIN;
     for suit in Suit::ALL {
         let suited = cards.of_suit(suit);
@@ -177,7 +161,7 @@ fn low_card(cards: CardSet, other: Card, led: Card) -> Card
             let worth = discard_worth(suited, card);
             if worth > most {
                 most = worth;
-                low = card;
+                low = Some(card);
             }
         }
     }

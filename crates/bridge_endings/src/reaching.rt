@@ -1,5 +1,5 @@
 //! Whether North and South win at least so many of the tricks left.
-ghost use Rattle.std.specs.Prelude.{◌≡◌, ℕ, ◌-◌, ◌*◌, ◌<◌, ◌≤◌, ◌==◌, not, length, MatchBool, IsTrue, ◌++◌, ◌∷◌, []};
+ghost use Rattle.std.specs.Prelude.{◌≡◌, ℕ, ◌-◌, ◌*◌, ◌<◌, ◌≤◌, ◌==◌, not, length, MatchBool, IsTrue, IfSome, ◌++◌, ◌∷◌, []};
 ghost use Rattle.bridge_cards.specs.Seat.{side_of};
 ghost use Rattle.bridge_endings.specs.Worth.{after_playing, dealt, trick_for};
 ghost use Rattle.bridge_endings.specs.Left.{left_to, is_sought, IsForegone};
@@ -7,13 +7,14 @@ ghost use Rattle.bridge_endings.specs.Agree.{IsDealtOut};
 ghost use Rattle.bridge_endings.specs.SearchValue.{GoesOn, IsAnswer, IsTable};
 
 use crate::answer::{Answer, still_to_try, upwards};
+use crate::asked::Asked;
 use crate::closed::{all_cards, cards_left, closed_hands, gaps, opened};
+use crate::entry::Entry;
 use crate::found::Found;
 use crate::like_hands::lengths_of;
-use crate::move_order::next_card;
-use crate::search::{Search, legal_cards};
+use crate::search::{Search, is_sought, legal_cards};
 use crate::sure_card::settled_by_one;
-use crate::table::{Entry, look_up, note};
+use crate::table::{look_up, note};
 use crate::trick::Trick;
 use bridge_cards::{Card, CardSet, Seat, Side};
 
@@ -66,18 +67,39 @@ impl Search {
         if tricks < 3 {
             return self.reaches(table, hands, left, &trick, tricks, need, None);
         }
-        if need == settled_by_one(leader, tricks)
-            && let Some(card) = self.sure_card(hands, left, leader)
-        {
-            return Answer {
-                yes: is_sought(leader),
-                counts: upwards(card),
-                best: card,
-            };
+        if let Some(answer) = self.seen_at_once(hands, left, leader, tricks, need) {
+            return answer;
         }
         let cards = cards_left(hands, left);
         let gone = gaps(all_cards(hands).difference(left), left);
         self.reaches_closed(table, &cards, gone, &trick, tricks, need)
+    }
+
+    /// The answer where it is seen without a search: by top trumps, or by one sure trick of the leader's side.
+    fn seen_at_once(
+        &self,
+        hands: &[CardSet; 4],
+        left: CardSet,
+        leader: Seat,
+        tricks: u8,
+        need: u8,
+    ) -> Option<Answer>
+        requires some { 0 < tricks }
+        requires dealt { IsDealtOut (left_to hands.now left) }
+        ensures { IfSome result (λ answer. IsAnswer self.now.trump (4 * tricks) need answer (left_to hands.now left) leader []) }
+    {
+        if let Some(answer) = self.settled_by_trumps(hands, left, tricks, need) {
+            return Some(answer);
+        }
+        if need != settled_by_one(leader, tricks) {
+            return None;
+        }
+        let card = self.sure_card(hands, left, leader)?;
+        Some(Answer {
+            yes: is_sought(leader),
+            counts: upwards(card),
+            best: card,
+        })
     }
 
     /// The same, asked of the hands closed up over the cards that are gone.
@@ -132,15 +154,21 @@ impl Search {
         ensures later { GoesOn self.old self.new }
         ensures table { IsTable table.new }
     {
-        let leader = trick.turn();
-        let lengths = lengths_of(hands);
-        let known = look_up(table, hands, lengths, self.trump, leader, tricks, need);
+        let asked = Asked {
+            hands: *hands,
+            lengths: lengths_of(hands),
+            trump: self.trump,
+            leader: trick.turn(),
+            tricks,
+            need,
+        };
+        let known = look_up(table, &self.heads, &asked);
         if let Some(answer) = known.answer {
             return answer;
         }
         let answer = self.reaches(table, hands, left, trick, tricks, need, known.best);
-        let found = Found::by(hands, lengths, self.trump, leader, tricks, need, &answer);
-        note(table, &found, known.place, &mut self.last);
+        let found = Found::by(&asked, &answer);
+        note(table, &mut self.heads, &found, known.place, &mut self.last);
         answer
     }
 
@@ -171,9 +199,9 @@ impl Search {
             return without_cards(need);
         }
         let sought = is_sought(trick.turn());
-        let seen = self.seen(hands, left, legal, trick, best);
+        let first = self.first_card(hands, left, legal, trick, best);
         let (mut rest, mut counts) = (legal, CardSet::new());
-        while let Some(card) = next_card(rest, trick, &seen) {
+        while let Some(card) = self.next_card(hands, left, rest, trick, first) {
             let answer = self.reaches_with(table, hands, left, trick, card, tricks, need);
             if answer.yes == sought {
                 return answer.by(card);
@@ -181,8 +209,8 @@ impl Search {
             rest = still_to_try(rest, card, answer.counts);
             counts = counts.union(answer.counts);
         }
-        let first = next_card(legal, trick, &seen).unwrap_or_default();
-        all_tried(sought, counts, first)
+        let first = self.next_card(hands, left, legal, trick, first);
+        all_tried(sought, counts, first.unwrap_or_default())
     }
 
     /// Whether they do once the card is played.
@@ -253,13 +281,6 @@ fn is_settled(trick: &Trick, tricks: u8, need: u8) -> bool
     ensures needless { length trick.now.cards ≡ 0 → need ≡ 0 → IsTrue result }
 {
     trick.len() == 0 && (need == 0 || need > tricks)
-}
-
-/// Whether the seat's side wants the tricks reached: North and South do.
-fn is_sought(seat: Seat) -> bool
-    ensures { result ≡ is_sought (side_of seat) }
-{
-    seat.side() == Side::NorthSouth
 }
 
 /// How many more tricks North and South need once the seat has won one.

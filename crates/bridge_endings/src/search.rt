@@ -2,13 +2,14 @@
 ghost use Rattle.std.specs.Prelude.{◌≡◌, ℕ, ◌+◌, ◌-◌, ◌^◌, min, length};
 ghost use Rattle.bridge_cards.specs.Card.{IsCard, card_suit};
 ghost use Rattle.bridge_cards.specs.CardSet.{IsCardSet, has_card};
-ghost use Rattle.bridge_cards.specs.Seat.{clockwise_from};
+ghost use Rattle.bridge_cards.specs.Seat.{clockwise_from, side_of};
 ghost use Rattle.bridge_endings.specs.Worth.{may_be_played};
-ghost use Rattle.bridge_endings.specs.Left.{left_to};
+ghost use Rattle.bridge_endings.specs.Left.{left_to, is_sought};
 ghost use Rattle.bridge_endings.specs.SearchValue.{GoesOn};
 
+use crate::heads::Heads;
 use crate::trick::Trick;
-use bridge_cards::{Card, CardSet, Seat, Suit};
+use bridge_cards::{Card, CardSet, Seat, Side, Suit};
 
 /// The trump suit of a search, if there is one, and how many cards it has tried, with those before; at `u64::MAX` it stays.
 #[derive(Drop)]
@@ -19,6 +20,8 @@ pub struct Search {
     pub tried: u64,
     /// Where in its table it put what it found last.
     pub last: u32,
+    /// Where the lists of its table begin.
+    pub heads: Heads,
 }
 
 impl Search {
@@ -60,4 +63,11 @@ pub fn suit_of(card: Card) -> Suit
     ensures known { IsCard card }
 {
     card.suit()
+}
+
+/// Whether the seat's side wants the tricks reached: North and South do.
+pub fn is_sought(seat: Seat) -> bool
+    ensures { result ≡ is_sought (side_of seat) }
+{
+    seat.side() == Side::NorthSouth
 }

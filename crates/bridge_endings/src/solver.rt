@@ -9,8 +9,10 @@ use crate::bounds::{Bounds, narrowed};
 use crate::cache::Cache;
 use crate::closed::all_cards;
 use crate::ending::Ending;
+use crate::entry::Entry;
+use crate::heads::Heads;
 use crate::search::Search;
-use crate::table::{Entry, empty_table};
+use crate::table::empty_table;
 use bridge_cards::{CardSet, Seat};
 
 /// The tricks of North and South where each of the four sees all the cards, and both sides play for as many as they can.
@@ -29,6 +31,7 @@ pub fn solve(ending: &Ending, cache: Option<&mut Cache>) -> u8
                 trump: ending.trump(),
                 tried: 0,
                 last: 0,
+                heads: Heads::few(),
             },
         ),
     }
@@ -49,6 +52,7 @@ fn solve_with(ending: &Ending, cache: &mut Cache) -> u8
         trump: ending.trump(),
         tried,
         last: 0,
+        heads: Heads::few(),
     };
     let worth = worth_by(ending, &mut search);
     cache.keep(ending, worth, search.tried);

@@ -8,7 +8,7 @@ ghost use Rattle.bridge_endings.specs.Agree.{IsRanked, IsUpward};
 
 use crate::answer::upwards;
 use bridge_cards::trick::{beats, same_suit};
-use bridge_cards::{Card, CardSet, Seat, Suit};
+use bridge_cards::{Card, CardSet, SUIT_CARDS, Seat, Suit};
 use std::marker::Model;
 
 /// The cards of a trick so far, the seat that led, and the trump suit if there is one.
@@ -20,6 +20,8 @@ pub struct Trick {
     played: u8,
     /// The winner so far, if a card is played.
     winning: Winning,
+    /// The cards that beat it; none where no card is played. Only the order of play rests on it.
+    higher: CardSet,
 }
 
 /// A card of a trick, and its index from the one led.
@@ -56,6 +58,7 @@ impl Trick {
                 card: Card::default(),
                 index: 0,
             },
+            higher: CardSet::new(),
         }
     }
 
@@ -99,12 +102,18 @@ impl Trick {
         ensures leader { result.leader ≡ self.now.leader }
         ensures cards { result.cards ≡ self.now.cards ++ card ∷ [] }
     {
+        let winning = self.winning_with(card);
         Trick {
             trump: self.trump,
             leader: self.leader,
             cards: self.cards_with(card),
             played: self.played + 1,
-            winning: self.winning_with(card),
+            winning,
+            higher: if winning.index == self.played {
+                self.beating(card)
+            } else {
+                self.higher
+            },
         }
     }
 
@@ -146,23 +155,17 @@ impl Trick {
         self.played >= 2 && self.winning.index == self.played - 2
     }
 
-    /// The card that wins so far, if one is played.
-    pub fn winning_card(&self) -> Card {
-        self.winning.card
+    /// Those of the cards that would win so far, where one is played already.
+    pub fn winners(&self, cards: CardSet) -> CardSet {
+        cards.intersection(self.higher)
     }
 
-    /// Whether the card would win so far.
-    pub fn is_beaten_by(&self, card: Card) -> bool {
-        beats(self.trump, self.cards[0], card, self.winning.card)
-    }
-
-    /// Those of the cards that would beat that one of the trick: the higher ones of its suit, and trumps where it is none.
-    pub fn winners(&self, cards: CardSet, best: Card) -> CardSet
-        ensures { (card : ℕ) → has_card result card ≡ true → has_card cards card ≡ true }
-    {
-        let higher = above(cards.of_suit(best.suit()), best);
+    /// The cards that beat that one once it wins: the higher ones of its suit, and trumps where it is none.
+    pub fn beating(&self, card: Card) -> CardSet {
+        let suit = card.suit();
+        let higher = above(suit_cards(suit), card);
         match self.trump {
-            Some(trump) if trump != best.suit() => higher.union(cards.of_suit(trump)),
+            Some(trump) if trump != suit => higher.union(suit_cards(trump)),
             _ => higher,
         }
     }
@@ -188,6 +191,14 @@ impl Trick {
         ensures { result ≡ next_leader self.now.trump self.now.leader self.now.cards }
     {
         self.leader.clockwise(usize::from(self.winning.index))
+    }
+}
+
+/// All cards of the suit.
+fn suit_cards(suit: Suit) -> CardSet {
+    match CardSet::from_bits(0x1fff << (SUIT_CARDS * suit.number())) {
+        Some(cards) => cards,
+        None => CardSet::new(),
     }
 }
 

@@ -8,7 +8,7 @@ use Rattle.bridge_endings.specs.SearchValue.{IsAnswer}
 use Rattle.bridge_endings.proofs.TwoAnswers.{other_answer, same_answer}
 use Rattle.bridge_endings.proofs.GoingOn.{goes_on_again, told_before}
 use Rattle.bridge_endings.proofs.Answered.{answered_step, fewer}
-use Rattle.bridge_endings.proofs.Reached.{foregone, foregone_first, none_legal, found, none_found, after_part, after_whole, sure_answer, closed_dealt, closed_answer, not_there, fewer_gone}
+use Rattle.bridge_endings.proofs.Reached.{foregone, foregone_first, none_legal, found, none_found, after_part, after_whole, closed_dealt, closed_answer, not_there, fewer_gone}
 use Rattle.bridge_endings.proofs.search.Search.+search.Goals as goal
 
 pub reaches-returns-then-is_settled-clause-answer : goal.reaches-returns-then-is_settled-clause-answer
@@ -61,11 +61,6 @@ pub reaches_from-returns-then-is_settled-clause-answer : goal.reaches_from-retur
 reaches_from-returns-then-is_settled-clause-answer t c =
     foregone_first c.args.self.now.trump c.args.tricks c.args.need c.without_cards.result (left_to c.args.hands.now c.args.left) c.args.leader
     c.if-is_settled.ensures.cases.1 c.without_cards.ensures.yes c.without_cards.ensures.counts
-
-pub reaches_from-returns-clause-answer : goal.reaches_from-returns-clause-answer
-reaches_from-returns-clause-answer t c =
-    sure_answer c.args.hands.now c.args.left c.requires.dealt c.args.self.now.trump c.args.leader c.in-Some.card c.upwards.result _ c.in-Some.ensures c.upwards.ensures
-    c.args.tricks c.args.need (omega arith) (omega arith) c.is_sought.result c.is_sought.ensures
 
 pub reaches_with-returns-then-len-lt4-clause-answer : goal.reaches_with-returns-then-len-lt4-clause-answer
 reaches_with-returns-then-len-lt4-clause-answer t c =
