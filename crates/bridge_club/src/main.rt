@@ -20,7 +20,7 @@ ghost use Rattle.line_text.specs.Streams.{stream};
 ghost use Rattle.bridge_club.specs.Texts.{AreClubTexts, OfClub};
 ghost use Rattle.club_commands.specs.Run.{HasRun, HasFailed, IsUsage};
 
-use club_commands::{Machine, run_words_with, status_of};
+use club_commands::{Alarm, run_words_with, status_of};
 use page_assets::{
     BOARDS_SCRIPT, DESK_SCRIPT, DIRECTOR_SCRIPT, PAGE, SHARED_SCRIPT, STYLE, TABLE_SCRIPT,
     TEXTS_SCRIPT, UNKNOWN_PAGE, WRONG_HOST,
@@ -28,7 +28,11 @@ use page_assets::{
 use std::alloc::Global;
 use std::fs::File;
 use std::io::{Read, Write};
+use std::net::{Net, TcpListener, TcpStream};
 use std::process::ExitCode;
+use std::random::RandomSource;
+use std::rt::Files;
+use std::time::Clock;
 use std::{env, io};
 use table_pages::PageTexts;
 
@@ -57,14 +61,16 @@ fn main(rt: HostRuntime) -> ExitCode {
 
 /// Runs the command that the words after the program's name ask for, and answers the exit status, as `run_words_with` does
 /// with the program's pages.
-fn run_words<S: Machine, R: Read, W: Write, E: Write>(
-    rt: &S,
-    alloc: Global,
-    words: &[&str],
-    input: &mut R,
-    output: &mut W,
-    errors: &mut E,
-) -> u8
+fn run_words<
+    S: Files<File = File>
+        + Net<Listener = TcpListener, Stream = TcpStream>
+        + Clock
+        + RandomSource
+        + Alarm,
+    R: Read,
+    W: Write,
+    E: Write,
+>(rt: &S, alloc: Global, words: &[&str], input: &mut R, output: &mut W, errors: &mut E) -> u8
     ensures done { result ≡ 0 → OfClub (HasRun words.entry.now (stream R.remaining input.old input.new)
         (stream W.contents output.old output.new) (stream E.contents errors.old errors.new) 0) }
     ensures usage { result ≡ 2 → IsUsage words.entry.now (stream R.remaining input.old input.new)
