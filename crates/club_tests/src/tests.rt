@@ -6,14 +6,19 @@ mod evening;
 mod refused;
 mod script;
 
-use club_commands::{Machine, refuse, run_words_with, status_of};
+use club_commands::{Alarm, refuse, run_words_with, status_of};
 use command_line::{WordsFault, read_words};
 use std::alloc::{AllocError, Global};
 use std::fmt::Debug;
 use std::fs;
+use std::fs::File;
 use std::io::{Error, ErrorKind, Read, Write};
+use std::net::{Net, TcpListener, TcpStream};
 use std::process::Abort;
+use std::random::RandomSource;
+use std::rt::Files;
 use std::test::Fail;
+use std::time::Clock;
 use table_pages::PageTexts;
 use test_texts::TWO_TABLES;
 
@@ -42,25 +47,28 @@ fn expect_eq<T: PartialEq + Debug + Drop>(
 }
 
 /// The status of a run with these words over these streams.
-fn status_of_run<S: Machine, R: Read, W: Write, E: Write>(
-    rt: &S,
-    alloc: Global,
-    words: &[&str],
-    input: &mut R,
-    output: &mut W,
-    errors: &mut E,
-) -> u8 {
+fn status_of_run<
+    S: Files<File = File>
+        + Net<Listener = TcpListener, Stream = TcpStream>
+        + Clock
+        + RandomSource
+        + Alarm,
+    R: Read,
+    W: Write,
+    E: Write,
+>(rt: &S, alloc: Global, words: &[&str], input: &mut R, output: &mut W, errors: &mut E) -> u8 {
     run_words_with(rt, alloc, TEXTS, words, input, output, errors)
 }
 
 /// Runs the words over an input, and fails where the status, the output or the errors are not those that are due.
-fn expect_run<T: Abort + Machine>(
-    rt: &T,
-    alloc: Global,
-    words: &[&str],
-    input: &str,
-    due: (u8, &str, &str),
-) {
+fn expect_run<
+    T: Abort
+        + Files<File = File>
+        + Net<Listener = TcpListener, Stream = TcpStream>
+        + Clock
+        + RandomSource
+        + Alarm,
+>(rt: &T, alloc: Global, words: &[&str], input: &str, due: (u8, &str, &str)) {
     let mut reader = input.as_bytes();
     let mut output = Vec::new(alloc);
     let mut errors = Vec::new(alloc);
@@ -79,12 +87,14 @@ fn expect_run<T: Abort + Machine>(
 }
 
 /// Formats a disk with the configuration of two tables, which is written to a file.
-fn expect_formatted<T: Abort + Machine>(
-    rt: &T,
-    alloc: Global,
-    disk: &str,
-    config: &str,
-) -> Result<(), Fail> {
+fn expect_formatted<
+    T: Abort
+        + Files<File = File>
+        + Net<Listener = TcpListener, Stream = TcpStream>
+        + Clock
+        + RandomSource
+        + Alarm,
+>(rt: &T, alloc: Global, disk: &str, config: &str) -> Result<(), Fail> {
     fs::write(rt, config, TWO_TABLES)?;
     let words = ["format", disk, config];
     expect_run(rt, alloc, &words, "", (0, "formatted\n", ""));

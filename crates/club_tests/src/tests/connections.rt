@@ -2,14 +2,18 @@
 use super::script::{failing_disk, solved_board};
 use super::{expect_eq, expect_formatted, expect_run};
 use bridge_endings::Cache;
-use club_commands::{Machine, RunFault, serve_connections};
+use club_commands::{Alarm, RunFault, serve_connections};
 use club_disk::open_session;
 use session_store::StoreFault;
 use std::alloc::Global;
+use std::fs::File;
 use std::io::Write;
 use std::net::{Ipv4Addr, Net, Shutdown, SocketAddr, TcpListener, TcpStream};
 use std::process::Abort;
+use std::random::RandomSource;
+use std::rt::Files;
 use std::test::Fail;
+use std::time::Clock;
 use std::{fs, io};
 use table_server::ServeFault;
 
@@ -113,13 +117,20 @@ fn a_connection_uses_the_cache(rt: HostRuntime) -> Result<(), Fail> {
     let result = serve_connections(&rt, &listener, 1, &mut store, &mut cache);
     expect_eq(&rt, result, Ok(()), "served");
     let written = io::read_to_string(alloc, client)?;
-    expect_eq(&rt, written.ends_with("OK\nOK 6 0\n"), true, "solved");
+    expect_eq(&rt, written.ends_with("OK\nOK 3 3\n"), true, "solved");
     expect_eq(&rt, cache.tried() > 0, true, "with the cache");
     Ok(())
 }
 
 /// Serves at a port that is taken.
-fn expect_taken<T: Abort + Machine>(rt: &T, alloc: Global, disk: &str, port: &str) {
+fn expect_taken<
+    T: Abort
+        + Files<File = File>
+        + Net<Listener = TcpListener, Stream = TcpStream>
+        + Clock
+        + RandomSource
+        + Alarm,
+>(rt: &T, alloc: Global, disk: &str, port: &str) {
     let due = (3, "", "cannot read input\n");
     expect_run(rt, alloc, &["serve", disk, port, "1"], "", due);
     expect_run(rt, alloc, &["web", disk, port, "1"], "", due);

@@ -1,10 +1,15 @@
 //! Evenings from lists of names, and their slips. The evening was written by hand from the first words of ChaCha20 under a key of
 //! zeros.
 use super::{expect_eq, expect_run, status_of_run, words_of};
-use club_commands::Machine;
+use club_commands::Alarm;
 use std::alloc::Global;
 use std::fs;
+use std::fs::File;
+use std::net::{Net, TcpListener, TcpStream};
+use std::random::RandomSource;
+use std::rt::Files;
 use std::test::Fail;
+use std::time::Clock;
 
 const NAMES: &str = "José García & A. Berger\nΆννα\tZoë\n# late\n\nLise Müller & Bob\n";
 
@@ -75,7 +80,13 @@ fn slips_have_the_names_of_a_list(rt: HostRuntime) -> Result<(), Fail> {
 }
 
 /// What a run with these words writes, where it is done.
-fn written_by<T: Machine>(rt: &T, alloc: Global, words: &[&str]) -> Result<Vec<u8>, Fail> {
+fn written_by<
+    T: Files<File = File>
+        + Net<Listener = TcpListener, Stream = TcpStream>
+        + Clock
+        + RandomSource
+        + Alarm,
+>(rt: &T, alloc: Global, words: &[&str]) -> Result<Vec<u8>, Fail> {
     let mut output = Vec::new(alloc);
     let mut errors = Vec::new(alloc);
     match status_of_run(

@@ -1,11 +1,16 @@
 //! Disks and configurations that are refused, and streams that fail.
 use super::{Broken, expect_eq, expect_formatted, expect_run, status_of_run};
-use club_commands::Machine;
+use club_commands::Alarm;
 use club_disk::{lock, lock_to_read};
 use std::alloc::Global;
 use std::fs;
+use std::fs::File;
+use std::net::{Net, TcpListener, TcpStream};
 use std::process::Abort;
+use std::random::RandomSource;
+use std::rt::Files;
 use std::test::Fail;
+use std::time::Clock;
 use test_texts::TWO_TABLES;
 
 // A file that is missing, one of no bytes, and one whose second row has the number of the first one's table.
@@ -64,7 +69,14 @@ fn a_bad_configuration_leaves_the_disk(rt: HostRuntime) -> Result<(), Fail> {
 }
 
 /// Runs each of the commands that open a session over this disk, and expects the status and the line.
-fn expect_refused<T: Abort + Machine>(rt: &T, alloc: Global, disk: &str, status: u8, line: &str) {
+fn expect_refused<
+    T: Abort
+        + Files<File = File>
+        + Net<Listener = TcpListener, Stream = TcpStream>
+        + Clock
+        + RandomSource
+        + Alarm,
+>(rt: &T, alloc: Global, disk: &str, status: u8, line: &str) {
     for command in ["rank", "pbn", "script"] {
         expect_run(rt, alloc, &[command, disk], "SYNC\n", (status, "", line));
     }

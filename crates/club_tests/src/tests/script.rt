@@ -11,12 +11,12 @@ use std::io::Write;
 use std::process::Abort;
 use std::test::Fail;
 use table_server::LineSet;
-use test_texts::{SEVEN_TRICKS, TWO_TABLES};
+use test_texts::{SEVEN_SPADES, TWO_TABLES};
 
-/// The lines of `SEVEN_TRICKS`, and what is left of the board solved.
+/// The lines of `SEVEN_SPADES`, and what is left of the board solved.
 pub fn solved_board(alloc: Global) -> Result<String, AllocError> {
     let mut text = String::new(alloc);
-    text.push_str(SEVEN_TRICKS)?;
+    text.push_str(SEVEN_SPADES)?;
     text.push_str("SOLVE 100 1 1 1 28\n")?;
     Ok(text)
 }
@@ -40,7 +40,7 @@ fn a_script_uses_the_cache(rt: HostRuntime) -> Result<(), Fail> {
         &mut output,
     );
     expect_eq(&rt, result, Ok(()), "served");
-    expect_eq(&rt, output.ends_with(b"OK\nOK 6 0\n"), true, "solved");
+    expect_eq(&rt, output.ends_with(b"OK\nOK 3 3\n"), true, "solved");
     expect_eq(&rt, cache.tried() > 0, true, "with the cache");
     Ok(())
 }

@@ -4,21 +4,21 @@ use super::expect_eq;
 use bridge_endings::Cache;
 use std::alloc::Global;
 use std::test::Fail;
-use test_texts::{SEVEN_TRICKS, TWO_TABLES};
+use test_texts::{SEVEN_SPADES, TWO_TABLES};
 
 /// The eighth trick at table 1.
-const EIGHTH_TRICK: &[u8] = b"CARD 11 1 28 S7
-CARD 31 1 29 H7
-CARD 11 1 30 D7
-CARD 32 1 31 C7
+const EIGHTH_TRICK: &[u8] = b"CARD 11 1 28 D7
+CARD 32 1 29 DT
+CARD 12 1 30 H9
+CARD 32 1 31 D2
 ";
 
 /// A store in which eight tricks were played.
 fn played(alloc: Global) -> Result<ClubStore, Fail> {
     let mut store = opened(alloc, TWO_TABLES, u64::MAX)?;
-    let (_, seven) = answers(alloc, &mut store, SEVEN_TRICKS.as_bytes());
+    let (_, seven) = answers(alloc, &mut store, SEVEN_SPADES.as_bytes());
     let (_, eighth) = answers(alloc, &mut store, EIGHTH_TRICK);
-    if seven != Ok(served(37, 37)) || eighth != Ok(served(4, 4)) {
+    if seven != Ok(served(36, 36)) || eighth != Ok(served(4, 4)) {
         return Err(Fail::from("eight tricks"));
     }
     Ok(store)
@@ -29,7 +29,7 @@ fn played(alloc: Global) -> Result<ClubStore, Fail> {
 fn an_endings_worth(rt: HostRuntime) -> Result<(), Fail> {
     let mut store = played(rt.alloc())?;
     let question = b"SOLVE 100 1 1 1 28\n".as_slice();
-    let due = b"OK 6 0\n".as_slice();
+    let due = b"OK 3 3\n".as_slice();
     let (written, _) = answers(rt.alloc(), &mut store, question);
     expect_eq(&rt, written.as_slice(), due, "no cache");
     for capacity in [1, 4096] {
