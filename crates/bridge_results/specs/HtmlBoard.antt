@@ -48,7 +48,7 @@ html_line_cells scoring line others =
     decimal line.play.row.ns ∷ decimal line.play.row.ew ∷ result_cell line.play.outcome ∷ declarer_cell line.play.outcome
     ∷ perhaps_card line.play.lead ∷ score_cell line.play.outcome (line_score line.comparison) ∷ gain_cells scoring line others
 
--- what North and South gained, or else East and West, if anything can be
+-- what North and South gained, or else East and West
 abbrev pub gain_for : Bool → Comparison → ℤ
 gain_for true compared = compared.ns_gain
 gain_for false compared = compared.ew_gain

@@ -21,7 +21,7 @@ doubled_marks Undoubled = []
 doubled_marks Doubled = codes "x"
 doubled_marks Redoubled = codes "xx"
 
--- declarer's tricks beside those that a contract of a level needs, which are six more than the level (Law 19B): `=` as many, or
+-- declarer's tricks beside those that a contract of a level needs, which are six more than the level (Law 18A): `=` as many, or
 -- how many more or less
 abbrev pub tricks_beside : ℕ → ℕ → List ℕ
 tricks_beside level tricks =
@@ -56,6 +56,6 @@ perhaps_card card = option_map_or card_cell card []
 abbrev pub gain_share : ℤ → ℕ → Option ℕ
 gain_share gain available = share_percent (record { pair = 0; place = 0; value = gain; available = available })
 
--- the same in per cent, if anything was gained or lost
+-- the same in per cent, where there is a gain, as a void play has none
 abbrev pub percent_cell : Option ℤ → ℕ → List ℕ
 percent_cell gain available = option_map_or (λ gained. percent_text (gain_share gained available)) gain []

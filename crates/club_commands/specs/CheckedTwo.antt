@@ -1,6 +1,6 @@
 -- What the command `check` says of two disks: what each holds, and how they stand to each other.
 use Rattle.std.specs.Prelude.{◌≡◌, ◌⊎◌, ◌++◌, ℕ, Bool, true, false, List, [], codes, Option, None, Some, Result, Ok, Err, IfOk, IfErr}
-use Rattle.club_commands.specs.Basis.{Bor, Stream, IsUntouched, Disk, ClubDisk, file_disk, header_in, session_keeping, SessionValue, StoreFault, NoMemory, RefusesReading, RunFault, Store}
+use Rattle.club_commands.specs.Basis.{Bor, Stream, IsUntouched, Disk, ClubDisk, file_disk, header_in, session_keeping, SessionValue, StoreFault, DiskFault, NoMemory, RefusesReading, RunFault, Store}
 use Rattle.club_commands.specs.declared.fault.RunFault.TheVariants.{Joining}
 use Rattle.club_commands.specs.declared.work.Work.TheVariants as work
 use Rattle.sector_disk.specs.Runs.{Quiet}
@@ -77,14 +77,20 @@ module _ {D : Type 0} (disk : Disk D) where
   -- The first of two disks gave nothing, and was looked at alone; or the second gave nothing, which is the fault, and what the first
   -- holds is written; or both were read, and what they hold is written. Nothing was written to either.
   abbrev pub ChecksTwo : D → D → D → D → Stream → Ended → Type 0
-  ChecksTwo d e left other output ended = ((read : D) × Quiet disk d read × (other ≡ e) × Checks disk read left output ended)
+  ChecksTwo d e left other output ended =
+      ((read : D) × (cause : StoreFault) × Quiet disk d read × RefusesReading disk header_in d read cause × (other ≡ e)
+      × Checks disk read left output ended)
       ⊎ (((ours : Held) × (cause : StoreFault) × IsHeld d left ours × RefusesReading disk header_in e other cause
       × StopsAlone ours cause output ended)
       ⊎ ((ours : Held) × (theirs : Held) × IsHeld d left ours × IsHeld e other theirs × TellsTwo ours theirs output ended))
 
+-- the disk was not found, or the copy was not
+abbrev pub IsNotFound : RunFault → Type 0
+IsNotFound fault = (fault ≡ Store DiskFault) ⊎ (fault ≡ Joining (NoCopy DiskFault))
+
 -- it was said what the disks in two files hold; or one was not found, and nothing is written
 abbrev pub HasCheckedTwo : Stream → Ended → Type 0
-HasCheckedTwo output ended = ((fault : RunFault) × (ended ≡ Err fault) × IsUntouched output)
+HasCheckedTwo output ended = ((fault : RunFault) × IsNotFound fault × (ended ≡ Err fault) × IsUntouched output)
     ⊎ ((d : ClubDisk) × (e : ClubDisk) × (left : ClubDisk) × (other : ClubDisk) × ChecksTwo file_disk d e left other output ended)
 
 -- what the disk in a file holds, or what the disks in two hold where another is named

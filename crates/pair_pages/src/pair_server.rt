@@ -102,6 +102,7 @@ impl<A: SectorDisk + Drop, B: SectorDisk + Drop> PairServer<Store<A, Session>, S
         ensures counts { IfSome result (λ replies.
             CountsInPair set (pair_of self.old.first self.old.second self.old.stopped) body.now replies.wrong_keys) }
         ensures ready { are_settled (pair_of self.new.first self.new.second self.new.stopped) ≡ true }
+        ensures names { self.new.names ≡ self.old.names }
     {
         if self.stopped {
             return None;

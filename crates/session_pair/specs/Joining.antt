@@ -22,7 +22,8 @@ use Rattle.session_pair.specs.declared.joining.JoinFault.TheVariants.{Disk as No
 abbrev pub IsAbove : SessionValue → ℕ → SessionValue → ℕ → Type 0
 IsAbove s epoch t other_epoch = (other_epoch < epoch) × HasAllOf s t
 
--- both are of one epoch, in which each has all that was told, or that of the greater one has all that the other has
+-- both are of one epoch, in which each has all that was told while both were kept, or that of the greater one has all that the
+-- other has
 abbrev pub MayFollow : SessionValue → ℕ → SessionValue → ℕ → Type 0
 MayFollow s epoch t other_epoch =
     (epoch ≡ other_epoch) ⊎ (IsAbove s epoch t other_epoch ⊎ IsAbove t other_epoch s epoch)
@@ -38,10 +39,15 @@ pub record IsJudged (s : SessionValue) (epoch records : ℕ) (t : SessionValue) 
   pub first : (judged.disk_first ≡ true) ↔ ComesFirst epoch records other_epoch other_records
   pub level : (judged.was_level ≡ true) ↔ (s ≡ t)
 
--- of the plays of that row something is missing that the other has, or of no row's
+-- of the plays of so many rows, the first ones, nothing is missing
+abbrev pub HasRowsOf : SessionValue → SessionValue → ℕ → Type 0
+HasRowsOf s t count = (index : ℕ) → index < count → HasRowOf s t index
+
+-- that row is the first of whose plays something is missing that the other has; or of no row's anything is
 abbrev pub IsLacking : SessionValue → SessionValue → Option Row → Type 0
 IsLacking s t (Some row) = (index : ℕ) × (slice_get s.configuration.movement.rows index ≡ Some row) × ¬ (HasRowOf s t index)
-IsLacking s t None = (index : ℕ) → index < length s.configuration.movement.rows → HasRowOf s t index
+    × HasRowsOf s t index
+IsLacking s t None = HasRowsOf s t (length s.configuration.movement.rows)
 
 -- in the session of the greater epoch
 abbrev pub IsLackingInGreater : SessionValue → ℕ → SessionValue → ℕ → Option Row → Type 0

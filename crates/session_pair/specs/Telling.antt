@@ -1,10 +1,12 @@
 -- What may be told of a pair of stores.
-use Rattle.std.specs.Prelude.{◌≡◌, Bool, true, false, List, []}
+use Rattle.std.specs.Prelude.{◌≡◌, ◌≢◌, ◌⊎◌, Bool, true, false, List, []}
 use Rattle.sector_disk.specs.Disk.{Disk}
 use Rattle.session_store.specs.Keeping.{Keeping}
 use Rattle.session_store.specs.Value.{StoreValue}
 use Rattle.session_store.specs.Store.{Continues}
 use Rattle.session_store.specs.Pair.{IsToldPair}
+use Rattle.session_store.specs.Settling.{CannotSettle}
+use Rattle.session_store.specs.declared.fault.CheckpointFault.{CheckpointFault}
 
 -- of two sides, the second's where a call of the first's disk has failed, and else the first's
 abbrev pub of_side : {P : Type 0} → Bool → P → P → P
@@ -35,6 +37,15 @@ module _ {D E S A R : Type 0} (kept : Keeping S A R) (first : Disk D) (second : 
   abbrev pub MayTell : StoreValue D S A → StoreValue E S A → Bool → StoreValue D S A → StoreValue E S A → Type 0
   MayTell v' w' may last other = (v : StoreValue D S A) (w : StoreValue E S A) → WereServed v w v' w' → may ≡ true
       → IsToldPair kept first second last other (shown_of last other)
+
+-- both stores work, and have not the same state
+abbrev pub AreApart : {D E S A : Type 0} → StoreValue D S A → StoreValue E S A → Type 0
+AreApart v w = (v.failed ≡ false) × (w.failed ≡ false) × (v.state ≢ w.state)
+
+-- why nothing may be told of stores, as they were served and as they are then: both work, and have not the same state; or the
+-- pair cannot be settled
+abbrev pub CannotTell : {D E S A : Type 0} → StoreValue D S A → StoreValue E S A → StoreValue D S A → StoreValue E S A → Type 0
+CannotTell v w v' w' = AreApart v w ⊎ ((fault : CheckpointFault) × CannotSettle v w v' w' fault)
 
 -- nothing stays pending in a store that works
 abbrev pub StaysConfirmed : {D S A : Type 0} → StoreValue D S A → StoreValue D S A → Type 0

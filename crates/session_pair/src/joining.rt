@@ -3,6 +3,7 @@ ghost use Rattle.std.specs.Prelude.{◌≡◌, ◌↔◌, true, IfOk, IfErr};
 ghost use Rattle.std.specs.Bool.{Decides};
 ghost use Rattle.session_pair.specs.Joining.{IsJudged, IsUnjudged, HasJoined, IsLacking, IsLackingInGreater, MayFollow, SeesBoth, IsOne};
 ghost use Rattle.session_pair.specs.Choosing.{ComesFirst};
+ghost use Rattle.sector_disk.specs.Runs.{Quiet};
 ghost use Rattle.session_store.specs.PairOpening.{IsPairOpened};
 ghost use Rattle.bridge_session.specs.SessionKeeping.{session_keeping};
 
@@ -71,8 +72,8 @@ fn stand_so(disk: &Reading<Session>, copy: &Reading<Session>) -> Judged
     }
 }
 
-/// Whether two disks are of one epoch, in which each has all that was told, or that of the greater one has all that the other
-/// has.
+/// Whether two disks are of one epoch, in which each has all that was told while both were kept, or that of the greater one has
+/// all that the other has.
 fn may_follow(disk: &Reading<Session>, copy: &Reading<Session>) -> bool
     ensures { Decides result (MayFollow disk.now.state disk.now.epoch copy.now.state copy.now.epoch) }
 {
@@ -145,6 +146,8 @@ fn judge_disks<D: SectorDisk>(
     copy: &mut D,
 ) -> Result<Judged, JoinFault>
     ensures judged { IfOk result (SeesBoth D.disk disk.old copy.old disk.new copy.new) }
+    ensures disk { Quiet D.disk disk.old disk.new }
+    ensures copy { Quiet D.disk copy.old copy.new }
 {
     match read_state::<D, Session>(alloc, disk) {
         Err(fault) => Err(JoinFault::Disk(fault)),

@@ -2,7 +2,7 @@
 ghost use Rattle.std.specs.Prelude.{◌≡◌, [], true, false};
 ghost use Rattle.session_store.specs.Pair.{OneWorks};
 ghost use Rattle.session_store.specs.Store.{Continues};
-ghost use Rattle.session_pair.specs.Telling.{MayTell, StaysConfirmed, shown_of};
+ghost use Rattle.session_pair.specs.Telling.{AreApart, CannotTell, MayTell, StaysConfirmed, shown_of};
 
 use sector_disk::SectorDisk;
 use session_store::{Kept, Store, is_same_state, pair_laws, settle_pair};
@@ -28,12 +28,11 @@ fn is_one_state<A: SectorDisk + Drop, B: SectorDisk + Drop, K: Kept>(
 ) -> bool
     ensures first { result ≡ true → first.now.failed ≡ false → first.now.state ≡ shown_of first.now second.now }
     ensures second { result ≡ true → second.now.failed ≡ false → second.now.state ≡ shown_of first.now second.now }
+    ensures other { result ≡ false → AreApart first.now second.now }
 {
     match (first.has_failed(), second.has_failed()) {
         (false, false) => is_same_state(second.state(), first.state()),
-        (true, false) => true,
-        (false, true) => true,
-        (true, true) => false,
+        _ => true,
     }
 }
 
@@ -46,6 +45,7 @@ pub fn settle_served<A: SectorDisk + Drop, B: SectorDisk + Drop, K: Kept>(
     second: &mut Store<B, K>,
 ) -> bool
     ensures told { MayTell K.kept A.disk B.disk first.old second.old result first.new second.new }
+    ensures untold { result ≡ false → CannotTell first.old second.old first.new second.new }
     ensures works { result ≡ true → OneWorks K.kept A.disk B.disk first.new second.new }
     ensures state { result ≡ true → shown_of first.new second.new ≡ shown_of first.old second.old }
     ensures lost { result ≡ true → first.new.failed ≡ first.old.failed }

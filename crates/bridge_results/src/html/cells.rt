@@ -137,7 +137,7 @@ fn gain_share(gain: i32, available: u32) -> Option<u32>
     })
 }
 
-/// The same in per cent, if anything was gained or lost.
+/// The same in per cent, where there is a gain, as a void play has none.
 pub fn percent_cell(gain: Option<i32>, available: u32) -> NumberText
     ensures text { result.bytes ≡ percent_cell gain available }
     ensures short { length result.bytes ≤ 13 }

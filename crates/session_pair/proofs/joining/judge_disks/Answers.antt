@@ -1,28 +1,30 @@
 use Rattle.std.proofs.lemmas.Result.{IfOk-weaker}
+use Rattle.sector_disk.proofs.RunLaws.{quiet}
 use Rattle.session_pair.specs.Joining.{IsJudged, SeesBoth}
 use Rattle.session_pair.proofs.joining.judge_disks.Goals as goal
 
-pub returns-in-Ok-read_state : goal.returns-in-Ok-read_state
-returns-in-Ok-read_state g c =
+pub returns-in-Ok-read_state-clause-judged : goal.returns-in-Ok-read_state-clause-judged
+returns-in-Ok-read_state-clause-judged g c =
     let ours = c.in-Ok.ours in
     let theirs = c.in-Ok-read_state.theirs in
-    record {
-      judged = IfOk-weaker c.judge.result (IsJudged ours.state ours.epoch ours.records theirs.state theirs.epoch theirs.records)
-          (SeesBoth g.D.SectorDisk.disk c.args.disk.now c.args.copy.now c.read_state.new.disk c.read_state-in-Ok.new.disk) (λ judged so. record {
-            s = ours.state;
-            format = ours.format;
-            epoch = ours.epoch;
-            sector = ours.sector;
-            records = ours.records;
-            seen = c.in-Ok.ensures.seen;
-            quiet = c.read_state.ensures.quiet;
-            t = theirs.state;
-            other_format = theirs.format;
-            other_epoch = theirs.epoch;
-            other_sector = theirs.sector;
-            other_records = theirs.records;
-            other_seen = c.in-Ok-read_state.ensures.seen;
-            other_quiet = c.read_state-in-Ok.ensures.quiet;
-            judged_so = so;
-          }) c.judge.ensures.judged;
-    }
+    IfOk-weaker c.judge.result (IsJudged ours.state ours.epoch ours.records theirs.state theirs.epoch theirs.records)
+    (SeesBoth g.D.SectorDisk.disk c.args.disk.now c.args.copy.now c.read_state.new.disk c.read_state-in-Ok.new.disk) (λ judged so. record {
+      s = ours.state;
+      format = ours.format;
+      epoch = ours.epoch;
+      sector = ours.sector;
+      records = ours.records;
+      seen = c.in-Ok.ensures.seen;
+      quiet = c.read_state.ensures.quiet;
+      t = theirs.state;
+      other_format = theirs.format;
+      other_epoch = theirs.epoch;
+      other_sector = theirs.sector;
+      other_records = theirs.records;
+      other_seen = c.in-Ok-read_state.ensures.seen;
+      other_quiet = c.read_state-in-Ok.ensures.quiet;
+      judged_so = so;
+    }) c.judge.ensures.judged
+
+pub returns-in-Err-clause-copy : goal.returns-in-Err-clause-copy
+returns-in-Err-clause-copy g c = quiet g.D.SectorDisk.disk c.args.copy.now

@@ -1,3 +1,4 @@
+use Rattle.std.proofs.Common.{inl, inr}
 use Rattle.session_pair.proofs.TellingLemmas.{confirmed-still, stays, tells}
 use Rattle.session_pair.proofs.telling.settle_served.Goals as goal
 
@@ -41,3 +42,9 @@ returns-in-Err-clause-confirmed g c = (
   confirmed-still g.K.Kept.kept g.A.SectorDisk.disk c.args.first.now c.settle_pair.new.first c.settle_pair.ensures.first,
   confirmed-still g.K.Kept.kept g.B.SectorDisk.disk c.args.second.now c.settle_pair.new.second c.settle_pair.ensures.second,
 )
+
+pub returns-in-Ok-clause-untold : goal.returns-in-Ok-clause-untold
+returns-in-Ok-clause-untold g c = λ is. inl (c.is_one_state-is_one.ensures.other is)
+
+pub returns-in-Err-clause-untold : goal.returns-in-Err-clause-untold
+returns-in-Err-clause-untold g c = λ is. inr (c.in-Err.field-0, c.in-Err.ensures.fault)
