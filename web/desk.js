@@ -1,12 +1,12 @@
 "use strict";
-// What stands beside the session: the director's notice, the round's clock, calls for the director, and what was said with a
-// claim. The server keeps it for as long as it runs.
+// What stands beside the session: the director's notice, the round's clock, calls for the director, what was said with a claim,
+// and who agreed to it or refused it. The server keeps it for as long as it runs.
 
 // How many seconds left of the clock are said.
 const CLOCK_SAID = [300, 60];
 const SECOND = 1000;
 
-const nothingStands = () => ({ notice: "", clock: null, calls: [], said: "", now: 0, at: 0, ends: null, disk: "" });
+const nothingStands = () => ({ notice: "", clock: null, calls: [], said: "", agreed: [], refusedBy: "", meets: null, now: 0, at: 0, ends: null, disk: "" });
 // Minutes before the end of the pages from which on they say so.
 const ENDS_SOON = 10;
 let desk = nothingStands();
@@ -37,6 +37,12 @@ const DESK_LINES = {
     found.calls.push({ table, minutes: Math.floor(seconds / 60), time: timeText(found.at - SECOND * seconds), pair, name, text: wordsFrom(line, 5) });
   },
   STATEMENT: (found, line) => { found.said = wordsFrom(line, 1); },
+  AGREED: (found, line) => { found.agreed.push(wordsFrom(line, 1)); },
+  REFUSED: (found, line) => { found.refusedBy = wordsFrom(line, 1); },
+  MEETS: (found, line) => {
+    const [, ns, ew, N, E, S, W] = line.split(" ");
+    found.meets = { ns, ew, names: { N, E, S, W } };
+  },
 };
 
 function readDesk(reply) {
@@ -61,6 +67,7 @@ function takeDesk(reply) {
   desk = readDesk(reply);
   const isBack = passing !== null && [TEXTS.callBack, TEXTS.cardBack].includes(passing.text);
   if (called && desk.calls.length === 0 && !isDirector() && !isBack) sayPassing(TEXTS.directorComes);
+  if (passing !== null && passing.text === TEXTS.claimRefused && desk.refusedBy) sayPassing(claimFell(), passing.where);
   showDesk();
 }
 

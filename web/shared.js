@@ -204,6 +204,29 @@ function rankingNode(reply, alone, own, names) {
 
 // ---- who has logged in, and when the page looks
 
+// The event, its site, date and plan, as the server tells them before anybody has sat down; null until it has.
+let evening = null;
+async function askEvening() {
+  if (evening !== null) return;
+  const reply = await ask("/desk", "");
+  if (reply === null || refusal(reply)) return;
+  const told = Object.fromEntries(reply.split("\n").map((line) => [line.split(" ")[0], line.split(" ").slice(1)]));
+  if (!told.PLAN) return;
+  evening = { event: spaced(told.EVENT[0]), site: spaced(told.SITE[0]), date: told.DATE[0], plan: told.PLAN };
+  if (at("login-head")) at("login-head").replaceChildren(...eveningNodes());
+}
+
+// A name of the configuration, which has hyphens for blanks.
+const spaced = (name) => name.replace(/-/g, " ");
+
+function eveningNodes() {
+  const large = (words) => make("p", { className: "large" }, words);
+  if (evening === null) return [large(TEXTS.title)];
+  const [year, month, day] = evening.date.split(".").map(Number);
+  const date = new Date(year, month - 1, day).toLocaleDateString([], { weekday: "long", day: "numeric", month: "long", year: "numeric" });
+  return [make("p", { className: "second" }, evening.site), large(evening.event), make("p", null, date), make("p", { className: "second" }, TEXTS.planOf(...evening.plan))];
+}
+
 function showLogin() {
   at("title").textContent = TEXTS.title;
   at("below").textContent = "";
@@ -223,7 +246,7 @@ function showLogin() {
     };
     field.setAttribute("aria-describedby", "wrong key-help");
     const form = make("form", { onsubmit: enter, className: "panel" },
-      make("div", { className: "login-head" }, make("p", { className: "large", aria_hidden: "true" }, TEXTS.title)),
+      make("div", { className: "login-head", id: "login-head" }, ...eveningNodes()),
       make("div", { className: "login-key" }, make("label", { for: "key" }, TEXTS.yourKey), field, make("p", { id: "wrong", role: "alert" }),
         make("p", { id: "key-help", className: "second" }, TEXTS.keyHelp), make("button", { type: "submit", className: "send" }, TEXTS.sitDown)),
       make("div", { className: "login-more" }, make("p", { className: "second" }, TEXTS.slipLost), button(TEXTS.textAndColours, "", "colours", true, showMenu)));
@@ -234,6 +257,7 @@ function showLogin() {
     return [form];
   });
   if (document.activeElement === document.body) at("key").focus();
+  askEvening();
 }
 
 function leave() {

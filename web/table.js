@@ -351,6 +351,8 @@ function boxKey(event) {
 }
 
 // Of a long auction the row in which a call is due is in view.
+// It is asked for with the next frame, in which the page is laid out once; until then nothing is drawn.
+const inFrame = (act) => (typeof requestAnimationFrame === "function" ? requestAnimationFrame(act) : act());
 function showNewest() {
   const [box, due] = [at("auction"), at("due-call")];
   if (box) box.scrollTop = due ? due.offsetTop + due.offsetHeight - box.clientHeight : box.scrollHeight;
@@ -589,9 +591,10 @@ function lastSheet(place, view) {
 // Answers to a claim that this player is asked for.
 function answerDock(place, view) {
   const line = (word) => word + " " + key + " " + view.board + " " + view.made.claims;
+  const told = [desk.said ? TEXTS.saidWith(desk.said) : "", desk.agreed.map((seat) => TEXTS.agrees([SEAT_NAMES[seat]])).join(" ")].filter(Boolean);
   return make("section", { id: "dock", className: "claimed", aria_label: TEXTS.theClaim },
     make("p", null, make("b", null, TEXTS.claims(SEAT_NAMES[view.claim.seat], view.claim.tricks, leftOf(view))), make("br"),
-      claimWords(place, view, view.claim.seat, Number(view.claim.tricks)) + TEXTS.ifAgreed, ...(desk.said ? [make("br"), TEXTS.saidWith(desk.said)] : [])),
+      claimWords(place, view, view.claim.seat, Number(view.claim.tricks)) + TEXTS.ifAgreed, ...told.flatMap((words) => [make("br"), words])),
     refuseButton(line("REFUSE")), button(TEXTS.agree, "", "agree", true, (event) => { if (!isDeaf(event)) send(line("AGREE")); }));
 }
 
@@ -618,6 +621,14 @@ function playDock(place, view) {
 
 const toPlay = (view, lead) => (view.turn === view.seat ? TEXTS.youAreToPlay : TEXTS.isToPlay(SEAT_NAMES[view.turn], lead));
 
+// Whom the claim asks (Law 68): declarer's both defenders, a defender's declarer alone; who of them has agreed, and who has not.
+function answersWords(place, view) {
+  const { declarer } = place.contract;
+  const asked = view.claim.seat === declarer ? SEATS.filter((seat) => seat !== declarer && seat !== partner(declarer)) : [declarer];
+  const [agreed, due] = [true, false].map((is) => asked.filter((seat) => desk.agreed.includes(seat) === is).map((seat) => SEAT_NAMES[seat]));
+  return [agreed.length ? TEXTS.agrees(agreed) : "", due.length ? TEXTS.areAsked(due) : ""].filter(Boolean).join(" ");
+}
+
 // Declarer's claim asks both defenders: whose answer is due no more has agreed, and his partner is asked.
 const hasAgreed = (place, view) => view.claim.seat === place.contract.declarer && isOther(view, view.claim.seat) && !place.answer;
 
@@ -627,7 +638,7 @@ function waiting(place, view) {
     const { seat, tricks } = view.claim;
     if (place.answer) return TEXTS.answerWaited;
     if (hasAgreed(place, view)) return TEXTS.youAgreed(SEAT_NAMES[partner(view.seat)]);
-    return (seat === view.seat ? TEXTS.youClaim(tricks, leftOf(view)) : TEXTS.claims(SEAT_NAMES[seat], tricks, leftOf(view))) + TEXTS.waitPlease;
+    return (seat === view.seat ? TEXTS.youClaim(tricks, leftOf(view)) : TEXTS.claims(SEAT_NAMES[seat], tricks, leftOf(view))) + answersWords(place, view);
   }
   if (!view.playing) return view.turn === view.seat ? TEXTS.yourTurnToCall : TEXTS.isToCall(SEAT_NAMES[view.turn]);
   const played = handPlayed(place, view);
@@ -690,6 +701,9 @@ function playGoesOn(place, view) {
 
 let before = null;
 
+// Why a claim stands no more, as far as it is told.
+const claimFell = () => (desk.refusedBy ? TEXTS.claimRefusedBy(SEAT_NAMES[desk.refusedBy]) : TEXTS.claimRefused);
+
 // What came since the last view of the same board, in words.
 function news(view) {
   const old = before;
@@ -700,7 +714,7 @@ function news(view) {
   const cards = view.trick.length ? view.trick : view.made.cards === old.made.cards ? [] : view.last;
   const fresh = Number(view.made.cards) - Number(old.made.cards);
   cards.slice(Math.max(0, cards.length - fresh)).forEach(({ seat, card }) => said.push(SEAT_NAMES[seat] + ": " + cardName(card)));
-  if (old.claim && !view.claim) sayPassing(TEXTS.claimRefused);
+  if (old.claim && !view.claim) sayPassing(claimFell());
   if (fresh < 0) sayPassing(TEXTS.cardBack);
   else if (view.calls.length < old.calls.length) sayPassing(TEXTS.callBack);
   if (view.last.length && view.trick.length === 0 && fresh > 0) said.push(TEXTS.trickTo(SEAT_NAMES[view.turn]));
@@ -764,13 +778,23 @@ function wayText(table, next) {
   return up === 0 ? TEXTS.stay : TEXTS.goTo(next.number, up);
 }
 
+// Whom he meets at his next table.
+function meetNodes(next) {
+  if (desk.meets === null) return [];
+  const names = shownAt(desk.meets.names);
+  const others = SEATS.filter((seat) => seat !== next.seat && seat !== partner(next.seat));
+  const pair = others.includes("N") ? desk.meets.ns : desk.meets.ew;
+  return [make("h2", null, TEXTS.youMeet(pair)), make("ul", { className: "names" },
+    ...others.map((seat) => make("li", null, make("span", { className: "mark", aria_label: SEAT_NAMES[seat] }, seat), names[seat])))];
+}
+
 function betweenNodes(place, next) {
   const nodes = [];
   if (next) {
     nodes.push(make("section", { className: "panel" }, make("p", { className: "second" }, TEXTS.nextOf(place.round + 1, place.rounds)),
       make("p", { className: "large" }, TEXTS.tableSeat(next.number, SEAT_NAMES[next.seat])),
       make("p", null, TEXTS.boardsOf(next.first, next.last) + ". ",
-        make("b", null, wayText(place.table, next))), ...wayNodes(place.table, next),
+        make("b", null, wayText(place.table, next))), ...wayNodes(place.table, next), ...meetNodes(next),
       make("p", { className: "second" }, TEXTS.roundBegins)));
   }
   const here = make("section", { className: "panel" }, make("p", { className: "second" }, TEXTS.roundOf(place.round, place.rounds)));
@@ -843,7 +867,7 @@ function showView(placeReply, reply) {
     barFor(place, null);
     const goesTo = (done || refused === "SitsOut") && place.next;
     nextRound = goesTo ? place.round + 1 : null;
-    show(made + told.text, status, "between" + (goesTo ? " goes-on" : ""), () => betweenNodes(place, goesTo));
+    show(made + told.text + JSON.stringify(desk.meets), status, "between" + (goesTo ? " goes-on" : ""), () => betweenNodes(place, goesTo));
     return;
   }
   const view = readView(reply);
@@ -856,10 +880,10 @@ function showView(placeReply, reply) {
   if (said) say("heard", said);
   if (showLeaf(place, (mine ? TEXTS.nextYours : TEXTS.nextBoard)(view.board))) return;
   barFor(place, view);
-  drawn = () => show(made + JSON.stringify([marked, claiming, looking, isSafe(), desk.said]),
+  drawn = () => show(made + JSON.stringify([marked, claiming, looking, isSafe(), desk.said, desk.agreed]),
     waiting(place, view), shapeOf(place, view) + (mine ? " mine" : ""), () => playNodes(place, view), moveFocus);
   drawn();
-  showNewest();
+  inFrame(showNewest);
   playLast(place, view);
 }
 
@@ -976,6 +1000,8 @@ async function act(line) {
   onWay = /^C(ALL|ARD) /.test(line) ? line.slice(0, 4).toLowerCase() + "-" + line.split(" ").pop() : "";
   drawn();
   const timers = sayLate(onWay);
+  // Whoever refuses a claim says so first, so that the others are told who did.
+  if (line.startsWith("REFUSE ")) await ask("/desk", asked + " REFUSAL");
   // The answer, and what there is to see then.
   const reply = await ask("/lines", line + "\nSEE " + asked + "\n");
   timers.forEach(clearTimeout);

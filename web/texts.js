@@ -3,6 +3,8 @@
 
 const TEXTS = {
   title: "Bridge table",
+  planOf: (tables, _rounds, boards, scoring) => tables + " tables \u00b7 " + (boards === "1" ? "1 board" : boards + " boards") + " a round \u00b7 " + (scoring === "MP" ? "matchpoints" : "IMPs"),
+  youMeet: (pair) => "You meet pair " + pair,
   yourTurn: "\u25cf Your turn \u2013 Bridge table",
   pieces: { S: "spade", H: "heart", D: "diamond", C: "club", N: "no trump" },
   suits: { S: "spades", H: "hearts", D: "diamonds", C: "clubs" },
@@ -187,7 +189,8 @@ const TEXTS = {
   answerWaited: "Your answer is waited for",
   youAgreed: (seat) => "You have agreed. " + seat + " is asked.",
   reallyRefuse: "Really refuse?",
-  waitPlease: "Please wait.",
+  agrees: (seats) => seats.join(" and ") + (seats.length === 1 ? " agrees." : " agree."),
+  areAsked: (seats) => seats.join(" and ") + (seats.length === 1 ? " is asked." : " are asked."),
   claimed: (seat, tricks) => seat + " claimed " + tricks + (tricks === "1" ? " trick" : " tricks") + ", and it was agreed.",
   claimWaits: (seat, tricks) => seat + " claims " + tricks + (tricks === "1" ? " trick" : " tricks") + ", and not all have answered.",
   hasClaimed: (seat, tricks) => seat + " claimed " + tricks + (tricks === "1" ? " trick." : " tricks."),
@@ -195,6 +198,7 @@ const TEXTS = {
   cardBack: "The director has taken back the last card.",
   endedByRuling: (board) => "Board " + board + " is not played on: the director has ruled so.",
   claimRefused: "The claim stands no more: it was refused, or the director took it back. Play goes on.",
+  claimRefusedBy: (seat) => seat + " does not agree to the claim. Play goes on; call the director if need be.",
 
   // Between the boards, and at the end.
   boardsOf: (first, last) => (first === last ? "Board " + first : "Boards " + first + " to " + last),

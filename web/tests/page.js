@@ -19,11 +19,11 @@ function fill(bytes) {
 }
 
 class Page {
-  constructor(answer, kept = {}, people = "OK\n.\n") {
+  constructor(answer, kept = {}, people = "OK\n.\n", stands = "OK\nNOW 0 14400\n.\n") {
     this.asked = [];
     this.answer = answer;
     // What the desk tells at a look, the names of the list, and what is waited with; they are not among what is asked.
-    this.stands = "OK\nNOW 0 14400\n.\n";
+    this.stands = stands;
     this.people = people;
     this.waits = [];
     this.kept = new Map(Object.entries(kept));

@@ -218,15 +218,17 @@ run({
         assert.strictEqual(page.text(id), "Refuse");
         await page.click(id);
       }
-      assert.strictEqual(await sent(page, id), `/lines ${word} ${KEY} 4 1\n`);
+      const [asks, lines] = id === "refuse" ? [await page.click(id), `/desk ${KEY} REFUSAL`] : [[await sent(page, id)], `/lines ${word} ${KEY} 4 1\n`];
+      assert.strictEqual(asks[0], lines);
+      if (id === "refuse") assert.ok(asks[1].startsWith(`/lines ${word} ${KEY} 4 1\n`), asks[1]);
     }
     const page = await seated(place({ CONTRACT: "1H E" }), play({ CLAIM: "S 5" }));
     assert.strictEqual(page.at("agree"), null);
-    assert.match(page.text("status"), /^You claim 5 of the 13 tricks left\. Please wait\.$/);
+    assert.strictEqual(page.text("status"), "You claim 5 of the 13 tricks left. East is asked.", "a defender's claim");
     const agreed = (contract, claim) => seated(place({ CONTRACT: contract }), play({ AT: "7 20 1", CLAIM: claim }));
     assert.strictEqual((await agreed("1H E", "E 5")).text("status"), "You have agreed. North is asked.");
-    assert.strictEqual((await agreed("1H N", "N 5")).text("status"), "North claims 5 of the 13 tricks left. Please wait.", "dummy is not asked");
-    assert.strictEqual((await agreed("1H E", "N 5")).text("status"), "North claims 5 of the 13 tricks left. Please wait.", "a defender's claim asks declarer alone");
+    assert.strictEqual((await agreed("1H N", "N 5")).text("status"), "North claims 5 of the 13 tricks left. East and West are asked.", "dummy is not asked");
+    assert.strictEqual((await agreed("1H E", "N 5")).text("status"), "North claims 5 of the 13 tricks left. East is asked.", "a defender's claim asks declarer alone");
   },
 
   "the table shows what is seen": async () => {
@@ -853,11 +855,45 @@ run({
     assert.match(asked.text("dock"), /\u201cthe rest are mine\u201d/);
   },
 
+  "who has agreed to a claim is told, and who has refused it": async () => {
+    const agreed = "OK\nNOW 9 14400\nAGREED W\n.\n";
+    const shows = (contract, claim, due) => seated(place(due ? { CONTRACT: contract, ANSWER: "DUE" } : { CONTRACT: contract }), play({ AT: "7 20 1", CLAIM: claim }), "OK\n", boards(), agreed);
+    assert.strictEqual((await shows("1H S", "S 5")).text("status"), "You claim 5 of the 13 tricks left. West agrees. East is asked.");
+    assert.match((await shows("1H E", "E 5", true)).text("dock"), /West agrees\./);
+    const page = await seated(place({ CONTRACT: "1H S" }), play({ AT: "7 20 1", CLAIM: "S 5" }));
+    page.answer = (where) => (where === "/place" ? place({ CONTRACT: "1H S" }) : play({ AT: "7 20 1" }));
+    page.stands = "OK\nNOW 9 14400\nREFUSED E\n.\n";
+    await page.look();
+    assert.strictEqual(page.text("notice"), "East does not agree to the claim. Play goes on; call the director if need be.");
+  },
+
   "that a claim was refused is told": async () => {
     const page = await seated(place({ CONTRACT: "1H E" }), play({ AT: "7 20 1", CLAIM: "S 5" }));
     page.answer = (where) => (where === "/place" ? place({ CONTRACT: "1H E" }) : play({ AT: "7 20 1" }));
     await page.look();
     assert.match(page.text("notice"), /stands no more/);
+  },
+
+  "before the login it is told which evening it is": async () => {
+    const evening = "OK\nEVENT Thursday-Pairs\nSITE Old-Mill\nDATE 2026.11.26\nPLAN 7 7 3 MP\n.\n";
+    const page = new Page(() => "ERR 1 NoKey\n", {}, undefined, evening);
+    await page.settle();
+    const words = page.at("login-head").nodes.map((one) => one.textContent);
+    assert.deepStrictEqual([words[0], words[1], words[3]], ["Old Mill", "Thursday Pairs", "7 tables \u00b7 3 boards a round \u00b7 matchpoints"]);
+    assert.match(words[2], /Thursday.*26.*2026/);
+    const untold = new Page(() => "ERR 1 NoKey\n", {}, undefined, "ERR 30 BadLine\n");
+    await untold.settle();
+    assert.strictEqual(untold.text("login-head"), "Bridge table");
+  },
+
+  "between rounds it is told whom one meets next": async () => {
+    const meets = "OK\nNOW 9 14400\nMEETS 3 2 Ann Dan Bob Cat\n.\n";
+    for (const [next, pair, names] of [["1 W 7 9", "3", ["NAnn", "SBob"]], ["1 S 7 9", "2", ["EDan", "WCat"]]]) {
+      const page = await seated(place({ NEXT: next }), "ERR 8 NotCurrent\n", "OK\n", boards(), meets);
+      assert.ok(page.text("main").includes("You meet pair " + pair), page.text("main"));
+      const told = page.document.root.all().filter((one) => one.tag === "li").map((one) => one.textContent);
+      assert.deepStrictEqual(told.slice(-2), names);
+    }
   },
 
   "the names of the list stand in place of the configuration's": async () => {

@@ -4,4 +4,4 @@
 pub const VERSION: &str = "0.1.0";
 
 /// The kit that proved it, as `rt version` names it.
-pub const KIT: &str = "rattle-kit-13b logic dac8208d650f15bf";
+pub const KIT: &str = "rattle-kit-13f logic dac8208d650f15bf";

@@ -258,6 +258,6 @@ fn words_that_cannot_be_had_are_named(rt: HostRuntime) {
 
 #[test]
 fn version_is_told(rt: HostRuntime) {
-    let line = "bridge_club 0.1.0, proved with rattle-kit-13b logic dac8208d650f15bf\n";
+    let line = "bridge_club 0.1.0, proved with rattle-kit-13f logic dac8208d650f15bf\n";
     expect_run(&rt, rt.alloc(), ["version"].as_slice(), "", (0, line, ""));
 }

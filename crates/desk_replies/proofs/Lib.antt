@@ -1,5 +1,6 @@
 pub mod PlainTexts
 pub mod Parts
 pub mod Lines
+pub mod ShownClaims
 pub mod ClaimViews
 pub mod SameDesk

@@ -4,7 +4,7 @@ use Rattle.std.specs.Prelude.{flat_map, codes}
 use Rattle.std.proofs.lemmas.List.{take_more}
 use Rattle.std.proofs.lemmas.List.Concat.{flat_map-append}
 use Rattle.line_text.specs.Lines.{lines_text}
-use Rattle.line_replies.specs.ReplyTexts.{listed_text}
+use Rattle.line_replies.specs.ReplyTexts.{spaced_line, listed_text}
 
 -- what follows from what holds at Ok holds at Ok
 pub then_ok : {A E P Q : Type 0} (r : Result A E) → (P → Q) → OnOk r P → OnOk r Q
@@ -25,6 +25,25 @@ two_added xs ys a b c first second = rw (second, first, lines_append xs ys) (app
 pub three_added : (xs ys zs : List (List ℕ)) (a b c d : List ℕ) → a ≡ [] → b ≡ a ++ lines_text xs → c ≡ b ++ lines_text ys → d ≡ c ++ lines_text zs → d ≡ lines_text (xs ++ (ys ++ zs))
 three_added xs ys zs a b c d empty one two three =
     rw (three, two, one, empty, lines_append xs (ys ++ zs), lines_append ys zs) (append_assoc (lines_text xs) (lines_text ys) (lines_text zs))
+
+-- three lists of lines that were added to a text
+pub three_more : (xs ys zs : List (List ℕ)) (a b c d : List ℕ) → b ≡ a ++ lines_text xs → c ≡ b ++ lines_text ys → d ≡ c ++ lines_text zs → d ≡ a ++ lines_text (xs ++ (ys ++ zs))
+three_more xs ys zs a b c d one two three =
+    two_added xs (ys ++ zs) a b d one (two_added ys zs b c d two three)
+
+-- and four
+pub four_more : (ws xs ys zs : List (List ℕ)) (a b c d e : List ℕ) → b ≡ a ++ lines_text ws → c ≡ b ++ lines_text xs → d ≡ c ++ lines_text ys → e ≡ d ++ lines_text zs
+    → e ≡ a ++ lines_text (ws ++ (xs ++ (ys ++ zs)))
+four_more ws xs ys zs a b c d e one two three four =
+    two_added ws (xs ++ (ys ++ zs)) a b e one (three_more xs ys zs b c d e two three four)
+
+-- a line of a word that is another
+pub line_of : (first word other a b : List ℕ) → word ≡ other → b ≡ a ++ lines_text (spaced_line first (word ∷ []) ∷ []) → b ≡ a ++ lines_text (spaced_line first (other ∷ []) ∷ [])
+line_of first word other a b same is = is ∙ ap (λ w. a ++ lines_text (spaced_line first (w ∷ []) ∷ [])) same
+
+-- what stands around some lines
+pub listed_all : (xs : List (List ℕ)) (a b c d : List ℕ) → b ≡ a ++ codes "OK\n" → c ≡ b ++ lines_text xs → d ≡ c ++ codes ".\n" → d ≡ a ++ listed_text xs
+listed_all xs a b c d one two three = rw (three, two, one, lines_append xs (codes "." ∷ [])) (simp append_assoc)
 
 -- what stands around a line and others
 pub listed_more : (x : List ℕ) (xs : List (List ℕ)) (a b c d e more : List ℕ) → b ≡ a ++ codes "OK\n" → c ≡ b ++ (x ++ 10 ∷ []) → more ≡ lines_text xs → d ≡ c ++ more

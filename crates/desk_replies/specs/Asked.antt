@@ -8,7 +8,7 @@ use Rattle.line_replies.specs.KeyWord.{number_of_word, key_of_word}
 use Rattle.desk_replies.specs.PlainText.{plain_text_of}
 use Rattle.desk_replies.specs.declared.asked.Asked.{Asked}
 use Rattle.desk_replies.specs.declared.asked.Order.{Order}
-use Rattle.desk_replies.specs.declared.asked.Order.TheVariants.{Look, Notice, NoNotice, Clock, NoClock, Answered, Call, State}
+use Rattle.desk_replies.specs.declared.asked.Order.TheVariants.{Look, Notice, NoNotice, Clock, NoClock, Answered, Call, State, Refuse}
 
 -- what stands before the first space and after it, where there is one
 abbrev pub parted : List ℕ → Option (List ℕ × List ℕ)
@@ -17,12 +17,13 @@ parted (byte ∷ bytes) =
     if byte == 32 then Some ([], bytes)
     else option_map (λ (parts : List ℕ × List ℕ). (byte ∷ parts.0, parts.1)) (parted bytes)
 
--- a word alone: the notice or the clock is taken down, or the director is called
+-- a word alone: the notice or the clock is taken down, the director is called, or a claim is refused
 abbrev pub order_alone : List ℕ → Option Order
 order_alone word =
     if bytes_eq word (codes "NOTICE") then Some NoNotice
     else if bytes_eq word (codes "CLOCK") then Some NoClock
     else if bytes_eq word (codes "CALL") then Some (Call [])
+    else if bytes_eq word (codes "REFUSAL") then Some Refuse
     else None
 
 -- a word and what stands after it: a notice of 1 to 200 characters, 1 to 240 minutes, a table, or 1 to 100 characters

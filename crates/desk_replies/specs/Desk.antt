@@ -3,9 +3,10 @@ use Rattle.std.specs.Prelude.{ℕ, ◌-◌, ◌==◌, ◌&&◌, Bool, false, if�
 use Rattle.bridge_cards.specs.Seat.{same_seat}
 use Rattle.desk_replies.specs.declared.desk.Desk.{Desk}
 use Rattle.desk_replies.specs.declared.desk.RoundClock.{RoundClock}
-use Rattle.desk_replies.specs.declared.desk.StandingClaim.{StandingClaim}
-use Rattle.desk_replies.specs.declared.desk.Statement.{Statement}
+use Rattle.desk_replies.specs.declared.said.StandingClaim.{StandingClaim}
+use Rattle.desk_replies.specs.declared.said.Statement.{Statement}
 use Rattle.desk_replies.specs.declared.desk.TableCall.{TableCall}
+use Rattle.desk_replies.specs.declared.said.ClaimRefusal.{ClaimRefusal}
 use Rattle.desk_replies.specs.PlainText.{plain_text_of}
 
 -- nothing stands beside a session on this disk, which is shown up to that second
@@ -18,6 +19,7 @@ new_desk ends disk = record {
   clock = None;
   calls = replicate 12 None;
   statements = replicate 12 None;
+  refusals = replicate 12 None;
 }
 
 -- the same beside a session on another disk
@@ -31,6 +33,10 @@ call_at desk table = unwrap_or (slice_get desk.calls (table - 1)) None
 -- the last statement at a table, if there was one
 abbrev pub statement_at : Desk → ℕ → Option Statement
 statement_at desk table = unwrap_or (slice_get desk.statements (table - 1)) None
+
+-- the last refusal that was said at a table, if there was one
+abbrev pub refusal_at : Desk → ℕ → Option ClaimRefusal
+refusal_at desk table = unwrap_or (slice_get desk.refusals (table - 1)) None
 
 -- a notice was put up in this second
 abbrev pub is_soon : ℕ → Option ℕ → Bool
@@ -47,6 +53,7 @@ with_notice desk at text = record {
   clock = desk.clock;
   calls = desk.calls;
   statements = desk.statements;
+  refusals = desk.refusals;
 }
 
 -- with no notice
@@ -59,6 +66,7 @@ without_notice desk = record {
   clock = desk.clock;
   calls = desk.calls;
   statements = desk.statements;
+  refusals = desk.refusals;
 }
 
 -- with that clock, or none
@@ -71,6 +79,7 @@ with_clock desk clock = record {
   clock = clock;
   calls = desk.calls;
   statements = desk.statements;
+  refusals = desk.refusals;
 }
 
 -- with that call of a table, or none
@@ -83,6 +92,7 @@ set_call desk table call = record {
   clock = desk.clock;
   calls = slice_set desk.calls (table - 1) call;
   statements = desk.statements;
+  refusals = desk.refusals;
 }
 
 -- a call, unless there is one of its table already
@@ -114,9 +124,33 @@ set_statement desk table statement = record {
   clock = desk.clock;
   calls = desk.calls;
   statements = slice_set desk.statements (table - 1) (Some statement);
+  refusals = desk.refusals;
 }
 
 -- with what is said with a claim at a table, unless something was said with it already
 abbrev pub with_statement : Desk → ℕ → Statement → Desk
 with_statement desk table statement =
     if is_said_with statement.claim (statement_at desk table) then desk else set_statement desk table statement
+
+-- a refusal is of this claim
+abbrev pub is_refusal_of : StandingClaim → Option ClaimRefusal → Bool
+is_refusal_of claim None = false
+is_refusal_of claim (Some refusal) = same_claim refusal.claim claim
+
+-- with that refusal at a table
+abbrev pub set_refusal : Desk → ℕ → ClaimRefusal → Desk
+set_refusal desk table refusal = record {
+  ends = desk.ends;
+  disk = desk.disk;
+  notice = desk.notice;
+  noticed = desk.noticed;
+  clock = desk.clock;
+  calls = desk.calls;
+  statements = desk.statements;
+  refusals = slice_set desk.refusals (table - 1) (Some refusal);
+}
+
+-- with that refusal at a table, unless there is one of the same claim already
+abbrev pub with_refusal : Desk → ℕ → ClaimRefusal → Desk
+with_refusal desk table refusal =
+    if is_refusal_of refusal.claim (refusal_at desk table) then desk else set_refusal desk table refusal

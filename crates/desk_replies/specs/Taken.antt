@@ -1,23 +1,23 @@
 -- What the desk takes, from whom, and what stands then.
-use Rattle.std.specs.Prelude.{◌≡◌, ℕ, ◌==◌, if◌then◌else◌, List, Option, Some, None, Result, Ok, Err}
+use Rattle.std.specs.Prelude.{◌≡◌, ℕ, ◌==◌, Bool, if◌then◌else◌, List, Option, Some, None, Result, Ok, Err}
 use Rattle.bridge_cards.specs.declared.seat.Seat.{Seat}
 use Rattle.bridge_cards.specs.Seat.{same_seat}
 use Rattle.session_rules.specs.declared.refused.Refused.{Refused}
-use Rattle.session_rules.specs.declared.refused.Refused.TheVariants.{NoClaim}
+use Rattle.session_rules.specs.declared.refused.Refused.TheVariants.{NoClaim, NotAsked}
 use Rattle.session_rules.specs.declared.seating.Player.{Player}
 use Rattle.session_rules.specs.declared.seating.Seating.{Seating}
 use Rattle.session_rules.specs.Answer.{Answer}
 use Rattle.session_rules.specs.State.{SessionValue, acting_player, director_answer, seating_of}
 use Rattle.desk_replies.specs.declared.asked.Asked.{Asked}
 use Rattle.desk_replies.specs.declared.asked.Order.{Order}
-use Rattle.desk_replies.specs.declared.asked.Order.TheVariants.{Look, Notice, NoNotice, Clock, NoClock, Answered, Call, State}
+use Rattle.desk_replies.specs.declared.asked.Order.TheVariants.{Look, Notice, NoNotice, Clock, NoClock, Answered, Call, State, Refuse}
 use Rattle.desk_replies.specs.declared.claims.SeenClaim.{SeenClaim}
 use Rattle.desk_replies.specs.declared.desk.Desk.{Desk}
-use Rattle.desk_replies.specs.declared.desk.StandingClaim.{StandingClaim}
+use Rattle.desk_replies.specs.declared.said.StandingClaim.{StandingClaim}
 use Rattle.desk_replies.specs.declared.refused.DeskRefused.{DeskRefused}
 use Rattle.desk_replies.specs.declared.refused.DeskRefused.TheVariants.{Session, TooSoon}
-use Rattle.desk_replies.specs.Claims.{claim_to}
-use Rattle.desk_replies.specs.Desk.{is_soon, with_notice, without_notice, with_clock, set_call, with_call, with_statement}
+use Rattle.desk_replies.specs.Claims.{standing, claim_to, is_asked}
+use Rattle.desk_replies.specs.Desk.{is_soon, with_notice, without_notice, with_clock, set_call, with_call, with_statement, with_refusal}
 
 -- the desk, where something is taken; or why not
 abbrev pub Taken : Type 0
@@ -58,7 +58,19 @@ state_with desk table seat text (Some claim) =
 -- a statement by a player with his own claim, which stands
 abbrev pub state_by : Desk → List ℕ → Result SeenClaim Refused → Taken
 state_by desk text (Err refused) = Err (Session refused)
-state_by desk text (Ok seen) = state_with desk seen.table seen.seat text seen.claim
+state_by desk text (Ok seen) = state_with desk seen.table seen.seat text (standing seen)
+
+-- a refusal from that seat at a table of the claim that stands, if it asks the seat
+abbrev pub refusal_with : Desk → ℕ → Seat → Bool → Option StandingClaim → Taken
+refusal_with desk table seat asked None = Err (Session NoClaim)
+refusal_with desk table seat asked (Some claim) =
+    if asked then Ok (with_refusal desk table (record { claim = claim; seat = seat })) else Err (Session NotAsked)
+
+-- a refusal by a player of the claim that stands, if he is asked and has not agreed
+abbrev pub refusal_by : Desk → Result SeenClaim Refused → Result Bool Refused → Taken
+refusal_by desk (Err refused) asked = Err (Session refused)
+refusal_by desk (Ok seen) (Err refused) = Err (Session refused)
+refusal_by desk (Ok seen) (Ok asked) = refusal_with desk seen.table seen.seat asked (standing seen)
 
 -- what the holder of a key asks for
 abbrev pub order_taken : SessionValue → Desk → ℕ → ℕ → Order → Taken
@@ -71,6 +83,7 @@ order_taken s desk at key NoClock = by_director (director_answer s.configuration
 order_taken s desk at key (Answered table) = by_director (director_answer s.configuration key) (Ok (set_call desk table None))
 order_taken s desk at key (Call text) = call_by desk at text (acting_player s.configuration key) (seating_of s.configuration s.round key)
 order_taken s desk at key (State text) = state_by desk text (claim_to s key)
+order_taken s desk at key Refuse = refusal_by desk (claim_to s key) (is_asked s key)
 
 -- what is asked for
 abbrev pub taken : SessionValue → Desk → ℕ → Asked → Taken

@@ -1,25 +1,34 @@
 -- What is told of the desk: to a player what concerns his table, to the director all calls.
-use Rattle.std.specs.Prelude.{ℕ, ◌+◌, ◌*◌, ◌==◌, min, if◌then◌else◌, List, [], ◌∷◌, ◌++◌, codes, flat_map, Option, Some, None, Result, Ok, Err}
+use Rattle.std.specs.Prelude.{ℕ, ◌+◌, ◌*◌, ◌==◌, nat_lt, min, if◌then◌else◌, List, [], ◌∷◌, ◌++◌, codes, flat_map, slice_get, Option, Some, None, Result, Ok, Err}
 use Rattle.std.specs.Fmt.{decimal}
 use Rattle.line_text.specs.Refusal.{refusal_line}
-use Rattle.bridge_config.specs.ConfigValue.{Pair, player_name}
+use Rattle.bridge_cards.specs.declared.seat.Seat.{Seat}
+use Rattle.bridge_cards.specs.declared.seat.Seat.TheVariants.{North, East, South, West}
+use Rattle.bridge_cards.specs.Seat.{seat_letter}
+use Rattle.bridge_config.specs.ConfigValue.{ConfigValue, Pair, player_name}
+use Rattle.bridge_config.specs.Spelling.{scoring_word}
+use Rattle.bridge_movement.specs.declared.row.Row.{Row}
+use Rattle.bridge_play.specs.declared.claim.Claim.{Claim}
+use Rattle.bridge_play.specs.Claims.{has_agreed}
 use Rattle.session_rules.specs.declared.refused.Refused.{Refused as SessionRefused}
 use Rattle.session_rules.specs.declared.seating.Seating.{Seating}
 use Rattle.session_rules.specs.State.{SessionValue, seating_of}
 use Rattle.line_replies.specs.declared.short_reply.ShortReply.TheVariants.{Refused, BadLine}
 use Rattle.line_replies.specs.ReplyTexts.{short_text, spaced_line, listed_text}
+use Rattle.line_replies.specs.TableWords.{names_at}
 use Rattle.desk_replies.specs.declared.asked.Asked.{Asked}
 use Rattle.desk_replies.specs.declared.claims.SeenClaim.{SeenClaim}
 use Rattle.desk_replies.specs.declared.desk.Desk.{Desk}
 use Rattle.desk_replies.specs.declared.desk.RoundClock.{RoundClock}
-use Rattle.desk_replies.specs.declared.desk.StandingClaim.{StandingClaim}
-use Rattle.desk_replies.specs.declared.desk.Statement.{Statement}
+use Rattle.desk_replies.specs.declared.said.StandingClaim.{StandingClaim}
+use Rattle.desk_replies.specs.declared.said.Statement.{Statement}
 use Rattle.desk_replies.specs.declared.desk.TableCall.{TableCall}
+use Rattle.desk_replies.specs.declared.said.ClaimRefusal.{ClaimRefusal}
 use Rattle.desk_replies.specs.declared.refused.DeskRefused.{DeskRefused}
 use Rattle.desk_replies.specs.declared.refused.DeskRefused.TheVariants.{Session, TooSoon}
 use Rattle.desk_replies.specs.Asked.{asked_of}
-use Rattle.desk_replies.specs.Claims.{claim_to}
-use Rattle.desk_replies.specs.Desk.{call_at, statement_at, is_said_with}
+use Rattle.desk_replies.specs.Claims.{standing, is_of_last, claim_to}
+use Rattle.desk_replies.specs.Desk.{call_at, statement_at, refusal_at, is_said_with}
 use Rattle.desk_replies.specs.Taken.{Taken, taken, left_by}
 
 -- the director's notice, if there is one
@@ -65,12 +74,48 @@ own_call_lines pairs desk (Ok seating) = call_lines pairs (call_at desk seating.
 -- what was said with the claim that he is shown there
 abbrev pub own_said_lines : Desk → Result SeenClaim SessionRefused → List (List ℕ)
 own_said_lines desk (Err refused) = []
-own_said_lines desk (Ok seen) = said_lines seen.claim (statement_at desk seen.table)
+own_said_lines desk (Ok seen) = said_lines (standing seen) (statement_at desk seen.table)
 
--- what is told of his own table to the player of the key
+-- that a seat has agreed to the claim that stands, if it has
+abbrev pub agreed_by : Claim → Seat → List (List ℕ)
+agreed_by claim seat = if has_agreed claim seat then spaced_line (codes "AGREED") ((seat_letter seat ∷ []) ∷ []) ∷ [] else []
+
+-- who has agreed to the claim that stands
+abbrev pub agreed_lines : Option Claim → List (List ℕ)
+agreed_lines None = []
+agreed_lines (Some claim) = agreed_by claim North ++ (agreed_by claim East ++ (agreed_by claim South ++ agreed_by claim West))
+
+-- who refused the last claim that was made in the play, if somebody said so
+abbrev pub refused_lines : SeenClaim → Option ClaimRefusal → List (List ℕ)
+refused_lines seen None = []
+refused_lines seen (Some refusal) =
+    if is_of_last seen refusal then spaced_line (codes "REFUSED") ((seat_letter refusal.seat ∷ []) ∷ []) ∷ [] else []
+
+-- what was answered to the claims that he is shown there
+abbrev pub own_answer_lines : Desk → Result SeenClaim SessionRefused → List (List ℕ)
+own_answer_lines desk (Err refused) = []
+own_answer_lines desk (Ok seen) = agreed_lines seen.claim ++ refused_lines seen (refusal_at desk seen.table)
+
+-- the pairs at the table of a row, North and South's first, and the names, if there is such a row
+abbrev pub row_lines : List Pair → Option Row → List (List ℕ)
+row_lines pairs None = []
+row_lines pairs (Some row) = spaced_line (codes "MEETS") (decimal row.ns ∷ decimal row.ew ∷ names_at pairs row) ∷ []
+
+-- the pairs and names where a player sits
+abbrev pub meeting_lines : ConfigValue → Result Seating SessionRefused → List (List ℕ)
+meeting_lines configuration (Err refused) = []
+meeting_lines configuration (Ok seating) = row_lines configuration.pairs (slice_get configuration.movement.rows seating.row)
+
+-- those where he sits in the next round, where there is one
+abbrev pub next_lines : ConfigValue → ℕ → ℕ → List (List ℕ)
+next_lines configuration round key =
+    if nat_lt round configuration.movement.shape.rounds then meeting_lines configuration (seating_of configuration (round + 1) key) else []
+
+-- what is told to the player of the key of his own table, and of his next one
 abbrev pub own_lines : SessionValue → Desk → ℕ → List (List ℕ)
 own_lines s desk key =
-    own_call_lines s.configuration.pairs desk (seating_of s.configuration s.round key) ++ own_said_lines desk (claim_to s key)
+    own_call_lines s.configuration.pairs desk (seating_of s.configuration s.round key)
+    ++ (own_said_lines desk (claim_to s key) ++ (own_answer_lines desk (claim_to s key) ++ next_lines s.configuration s.round key))
 
 -- what the director is told: the calls of all tables, by table
 abbrev pub all_call_lines : SessionValue → Desk → List (List ℕ)
@@ -112,14 +157,37 @@ abbrev pub taken_text : SessionValue → ℕ → ℕ → Taken → List ℕ
 taken_text s at key (Err refused) = refused_text refused
 taken_text s at key (Ok desk) = standing_text s desk at key
 
--- what is answered to what is asked
-abbrev pub asked_text : SessionValue → Desk → ℕ → Option Asked → List ℕ
-asked_text s desk at None = short_text BadLine
-asked_text s desk at (Some asked) = taken_text s at asked.key.0 (taken s desk at asked)
+-- how many tables, rounds and boards of a set there are, and how scores are compared
+abbrev pub plan_words : ConfigValue → List (List ℕ)
+plan_words configuration =
+    decimal configuration.movement.shape.tables
+    ∷ decimal configuration.movement.shape.rounds
+    ∷ decimal configuration.boards
+    ∷ scoring_word configuration.scoring
+    ∷ []
+
+-- the event, the site, the date, and the plan
+abbrev pub event_lines : ConfigValue → List (List ℕ)
+event_lines configuration =
+    spaced_line (codes "EVENT") (configuration.event ∷ [])
+    ∷ spaced_line (codes "SITE") (configuration.site ∷ [])
+    ∷ spaced_line (codes "DATE") (configuration.date ∷ [])
+    ∷ spaced_line (codes "PLAN") (plan_words configuration)
+    ∷ []
+
+-- what is answered to bytes that ask by no key: where there are none, of which event the session is
+abbrev pub keyless_text : ConfigValue → List ℕ → List ℕ
+keyless_text configuration [] = listed_text (event_lines configuration)
+keyless_text configuration (byte ∷ bytes) = short_text BadLine
+
+-- what is answered to what is asked by these bytes
+abbrev pub asked_text : SessionValue → Desk → ℕ → List ℕ → Option Asked → List ℕ
+asked_text s desk at bytes None = keyless_text s.configuration bytes
+asked_text s desk at bytes (Some asked) = taken_text s at asked.key.0 (taken s desk at asked)
 
 -- what is answered to these bytes at a second
 abbrev pub desk_text : SessionValue → Desk → ℕ → List ℕ → List ℕ
-desk_text s desk at bytes = asked_text s desk at (asked_of bytes)
+desk_text s desk at bytes = asked_text s desk at bytes (asked_of bytes)
 
 -- what stands once that is answered
 abbrev pub desk_after_asked : SessionValue → Desk → ℕ → Option Asked → Desk

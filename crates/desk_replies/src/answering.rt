@@ -5,8 +5,9 @@ ghost use Rattle.desk_replies.specs.Told.{taken_text, desk_text, desk_after};
 
 use crate::asked::{Asked, read_asked};
 use crate::desk::Desk;
+use crate::event::push_keyless;
 use crate::telling::push_standing;
-use crate::text::{push_bad_line, push_refused};
+use crate::text::push_refused;
 use bridge_session::Session;
 use std::alloc::{AllocError, Global};
 
@@ -41,20 +42,20 @@ fn push_answer(
 {
     match read_asked(bytes) {
         Some(asked) => push_taken(text, session, desk, at, asked),
-        None => push_bad_line(text),
+        None => push_keyless(text, session.config().fields(), bytes),
     }
 }
 
 /// Takes what these bytes ask for at a second, counted since the server began, and gives what is answered.
 ///
 /// A key alone is answered by what stands: `OK`, the second, the notice, the second at which the clock ends, the call of the
-/// player's own table and what was said with the claim that he is shown, or all calls where the key is the director's, each as far
-/// as there is one, and a full stop. So is what is taken: of the director `NOTICE` and a text, or alone, which takes it down, `CLOCK` and minutes, or
-/// alone, and `ANSWERED` and a table; of a player `CALL` and a text, or alone, for his own table, and `STATEMENT` and a text, for
-/// his own claim while it stands. A second call of a table and a second statement with a claim leave the first.
+/// player's own table, what was said with the claim that he is shown, what was answered to it and whom he meets in the next round,
+/// or all calls where the key is the director's, each as far as there is one, and a full stop. So is what is taken: of the director `NOTICE` and a text, or alone, which takes it down, `CLOCK` and minutes, or
+/// alone, and `ANSWERED` and a table; of a player `CALL` and a text, or alone, for his own table, `STATEMENT` and a text, for
+/// his own claim while it stands, and `REFUSAL`, of the claim that he is asked for. A second call of a table and a second statement with a claim leave the first.
 ///
-/// Refused are `BadLine` for bytes of no such form, and then what `Desk::take` refuses. `None` where memory was refused for the
-/// text; what was asked for is taken all the same.
+/// No bytes ask of which event the session is. Refused are `BadLine` for others of no such form, and then what `Desk::take`
+/// refuses. `None` where memory was refused for the text; what was asked for is taken all the same.
 pub fn answer_desk(
     session: &Session,
     desk: &mut Desk,

@@ -49,6 +49,8 @@ pub enum Order {
     Call(PlainText),
     /// That this be the statement of the player's claim (Law 68C).
     State(PlainText),
+    /// That it be told that the player refuses the claim which he is asked for.
+    Refuse,
 }
 
 /// What stands before the first space and after it, where there is one.
@@ -84,6 +86,8 @@ fn read_alone(word: &[u8]) -> Option<Order>
         Some(Order::NoClock)
     } else if word == b"CALL".as_slice() {
         Some(Order::Call(PlainText::empty()))
+    } else if word == b"REFUSAL".as_slice() {
+        Some(Order::Refuse)
     } else {
         None
     }

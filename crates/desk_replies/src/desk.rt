@@ -2,10 +2,10 @@
 ghost use Rattle.std.specs.Prelude.{◌≡◌, ◌<◌, ◌-◌, length, Some, None};
 ghost use Rattle.std.specs.Option.{option_copied};
 ghost use Rattle.session_rules.specs.Numbers.{IsTableNumber};
-ghost use Rattle.desk_replies.specs.Desk.{with_disk, new_desk, call_at, statement_at, is_soon, with_notice, without_notice, with_clock, set_call, with_call, is_said_with, with_statement};
+ghost use Rattle.desk_replies.specs.Desk.{with_disk, new_desk, call_at, statement_at, is_soon, with_notice, without_notice, with_clock, set_call, with_call, is_said_with, with_statement, refusal_at, is_refusal_of, with_refusal};
 
 use crate::plain_text::{MOST_CHARACTERS, PlainText};
-use bridge_cards::Seat;
+use crate::said::{ClaimRefusal, StandingClaim, Statement};
 use session_rules::Player;
 
 /// The most tables.
@@ -33,28 +33,6 @@ pub struct TableCall {
     pub text: PlainText,
 }
 
-/// A claim that stands.
-#[derive(Clone, Copy, Debug, PartialEq, Eq)]
-pub struct StandingClaim {
-    /// The round of its play.
-    pub round: u8,
-    /// The index of its board in the table's set.
-    pub index: u8,
-    /// How many claims were made in the play, this one included.
-    pub number: u8,
-    /// Who claims.
-    pub claimer: Seat,
-}
-
-/// What was said with a claim (Law 68C).
-#[derive(Drop)]
-pub struct Statement {
-    /// The claim.
-    pub claim: StandingClaim,
-    /// What was said.
-    pub text: PlainText,
-}
-
 /// What stands beside the session, in the server's memory alone.
 #[derive(Drop)]
 pub struct Desk {
@@ -72,6 +50,8 @@ pub struct Desk {
     pub(crate) calls: [Option<TableCall>; TABLES],
     /// What was said with the last claim at each table that had a statement.
     pub(crate) statements: [Option<Statement>; TABLES],
+    /// Who refused the last claim at each table of which somebody said so.
+    pub(crate) refusals: [Option<ClaimRefusal>; TABLES],
 }
 
 /// The index of a table among those of the desk.
@@ -98,6 +78,9 @@ impl Desk {
                 None, None, None, None, None, None, None, None, None, None, None, None,
             ],
             statements: [
+                None, None, None, None, None, None, None, None, None, None, None, None,
+            ],
+            refusals: [
                 None, None, None, None, None, None, None, None, None, None, None, None,
             ],
         }
@@ -204,17 +187,33 @@ impl Desk {
             self.statements[index_of(table)] = Some(statement);
         }
     }
-}
 
-impl Statement {
-    /// Whether it was said with that claim.
-    pub(crate) fn is_of(&self, claim: StandingClaim) -> bool
-        ensures { result ≡ is_said_with claim (Some self.now) }
+    /// The last refusal that was said at a table, if there was one.
+    pub(crate) fn refusal_at(&self, table: u8) -> Option<ClaimRefusal>
+        requires { IsTableNumber table }
+        ensures { result ≡ refusal_at self.now table }
     {
-        let own = &self.claim;
-        own.round == claim.round
-            && own.index == claim.index
-            && own.number == claim.number
-            && own.claimer == claim.claimer
+        self.refusals[index_of(table)]
+    }
+
+    /// Whether somebody said at a table that he refuses a claim.
+    fn has_refusal(&self, table: u8, claim: StandingClaim) -> bool
+        requires { IsTableNumber table }
+        ensures { result ≡ is_refusal_of claim (refusal_at self.now table) }
+    {
+        match self.refusal_at(table) {
+            Some(refusal) => refusal.claim.is(claim),
+            None => false,
+        }
+    }
+
+    /// Takes a refusal at a table, unless there is one of the same claim already.
+    pub(crate) fn put_refusal(&mut self, table: u8, refusal: ClaimRefusal)
+        requires { IsTableNumber table }
+        ensures { self.new ≡ with_refusal self.old table refusal }
+    {
+        if !self.has_refusal(table, refusal.claim) {
+            self.refusals[index_of(table)] = Some(refusal);
+        }
     }
 }

@@ -20,6 +20,16 @@ pub const CALL_BYTES: usize = 864;
 /// The room in bytes for the line of a statement: `STATEMENT`, a text of at most 800 bytes behind a space, and the line's end.
 pub const STATEMENT_BYTES: usize = 811;
 
+/// The room in bytes for the line of an answer to a claim: `REFUSED`, a seat's letter behind a space, and the line's end.
+pub const ANSWER_BYTES: usize = 10;
+
+/// The room in bytes for the names at a table: four of at most 24 bytes, each behind a space.
+pub const NAMES_BYTES: usize = 100;
+
+/// The room in bytes for the line of whom a player meets: `MEETS`, two numbers of at most 10 digits and four names of at most 24
+/// bytes, each behind a space, and the line's end.
+pub const MEETS_BYTES: usize = 128;
+
 /// The room in bytes for what stands: the notice, the clock, and the calls of twelve tables.
 pub const STANDING_BYTES: usize = NOTICE_BYTES + CLOCK_BYTES + 12 * CALL_BYTES;
 

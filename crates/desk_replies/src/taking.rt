@@ -2,15 +2,16 @@
 ghost use Rattle.std.specs.Prelude.{◌≡◌, Ok, Some, None};
 ghost use Rattle.session_rules.specs.Numbers.{IsTableNumber};
 ghost use Rattle.session_rules.specs.State.{acting_player, director_answer, seating_of};
-ghost use Rattle.desk_replies.specs.Claims.{claim_to};
+ghost use Rattle.desk_replies.specs.Claims.{standing, claim_to, is_asked};
 ghost use Rattle.desk_replies.specs.Desk.{without_notice, with_clock, set_call};
-ghost use Rattle.desk_replies.specs.Taken.{Takes, look_taken, notice_taken, call_by, state_with, state_by, by_director, order_taken, taken};
+ghost use Rattle.desk_replies.specs.Taken.{Takes, look_taken, notice_taken, call_by, state_with, state_by, refusal_with, refusal_by, by_director, order_taken, taken};
 
 use crate::asked::{Asked, Order};
-use crate::claims::{SeenClaim, claim_to};
-use crate::desk::{Desk, RoundClock, Statement, TableCall};
+use crate::claims::{SeenClaim, claim_to, is_asked};
+use crate::desk::{Desk, RoundClock, TableCall};
 use crate::plain_text::PlainText;
 use crate::refused::DeskRefused;
+use crate::said::{ClaimRefusal, Statement};
 use bridge_config::Key;
 use bridge_session::Session;
 use bridge_table::{acting_player, check_director, seat_by};
@@ -104,9 +105,9 @@ impl Desk {
     /// Takes what is said with the claim that is seen, if it is the viewer's own.
     fn take_said(&mut self, seen: SeenClaim, text: PlainText) -> Result<(), DeskRefused>
         requires { IsTableNumber seen.table }
-        ensures { Takes (state_with self.old seen.table seen.seat text seen.claim) self.old result self.new }
+        ensures { Takes (state_with self.old seen.table seen.seat text (standing seen)) self.old result self.new }
     {
-        match seen.claim {
+        match seen.standing() {
             Some(claim) if claim.claimer == seen.seat => {
                 self.put_statement(seen.table, Statement { claim, text });
                 Ok(())
@@ -128,10 +129,35 @@ impl Desk {
         self.take_said(seen, text)
     }
 
+    /// Takes a refusal of the claim that is seen, if one stands and the viewer is asked.
+    fn take_refused(&mut self, seen: SeenClaim, asked: bool) -> Result<(), DeskRefused>
+        requires { IsTableNumber seen.table }
+        ensures { Takes (refusal_with self.old seen.table seen.seat asked (standing seen)) self.old result self.new }
+    {
+        match seen.standing() {
+            Some(claim) if asked => {
+                let seat = seen.seat;
+                self.put_refusal(seen.table, ClaimRefusal { claim, seat });
+                Ok(())
+            }
+            Some(_) => Err(DeskRefused::Session(Refused::NotAsked)),
+            None => Err(DeskRefused::Session(Refused::NoClaim)),
+        }
+    }
+
+    /// Takes it from a player that he refuses the claim which he is asked for.
+    fn take_refusal(&mut self, session: &Session, key: Key) -> Result<(), DeskRefused>
+        ensures { Takes (refusal_by self.old (claim_to session.now key.0) (is_asked session.now key.0)) self.old result self.new }
+    {
+        let seen = claim_to(session, key)?;
+        let asked = is_asked(session, key)?;
+        self.take_refused(seen, asked)
+    }
+
     /// Takes what is asked for at a second, or refuses it and stands as before. Refused are `NoKey` where the key is nobody's,
     /// `NotAllowed` where a player asks what the director may, or he what a player may, `TooSoon` where a notice was put up in
-    /// the same second, `Closed` and `SitsOut` where a caller sits at no table, and `NoClaim` where no claim of the player's
-    /// own stands.
+    /// the same second, `Closed` and `SitsOut` where a caller sits at no table, `NoClaim` where no claim stands, or none of the
+    /// player's own with which he could say something, and `NotAsked` where it is not his to refuse it.
     pub fn take(&mut self, session: &Session, at: u32, asked: Asked) -> Result<(), DeskRefused>
         ensures { Takes (taken session.now self.old at asked) self.old result self.new }
     {
@@ -147,6 +173,7 @@ impl Desk {
             Order::Answered(table) => self.take_answered(session, key, table),
             Order::Call(text) => self.take_call(session, at, key, text),
             Order::State(text) => self.take_statement(session, key, text),
+            Order::Refuse => self.take_refusal(session, key),
         }
     }
 }

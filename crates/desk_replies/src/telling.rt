@@ -4,21 +4,18 @@ ghost use Rattle.std.specs.Option.{option_copied};
 ghost use Rattle.arrayvec.specs.ArrayString.{array_string_len};
 ghost use Rattle.bridge_config.specs.ConfigValue.{pair_of};
 ghost use Rattle.line_text.specs.Lines.{lines_text};
-ghost use Rattle.session_rules.specs.State.{seating_of};
-ghost use Rattle.desk_replies.specs.Claims.{claim_to};
-ghost use Rattle.desk_replies.specs.Told.{notice_lines, end_of_clock, clock_lines, call_line, call_lines, said_lines, own_call_lines, own_said_lines, own_lines, all_call_lines, concerns, now_line, named_lines, disk_lines, standing_lines, standing_text};
+ghost use Rattle.desk_replies.specs.Told.{notice_lines, end_of_clock, clock_lines, call_line, call_lines, all_call_lines, concerns, now_line, named_lines, disk_lines, standing_lines, standing_text};
 
-use crate::claims::claim_to;
-use crate::desk::{Desk, RoundClock, StandingClaim, Statement, TableCall};
+use crate::desk::{Desk, RoundClock, TableCall};
+use crate::own_table::push_own;
 use crate::plain_text::PlainText;
 use crate::standing::{
-    CALL_BYTES, CLOCK_BYTES, NOTICE_BYTES, STANDING_BYTES, STATEMENT_BYTES, StandingText,
-    push_line, push_number, push_word,
+    CALL_BYTES, CLOCK_BYTES, NOTICE_BYTES, STANDING_BYTES, StandingText, push_line, push_number,
+    push_word,
 };
 use crate::text::{push_number as add_number, push_str, push_word as add_word};
 use bridge_config::{Key, PairFields, player_name};
 use bridge_session::Session;
-use bridge_table::seat_by;
 use line_text::number_text;
 use std::alloc::AllocError;
 
@@ -70,7 +67,7 @@ fn push_call(text: &mut StandingText, pairs: &[PairFields], call: &TableCall)
 }
 
 /// Adds the line of a call, if there is one.
-fn push_call_if(text: &mut StandingText, pairs: &[PairFields], call: Option<&TableCall>)
+pub(crate) fn push_call_if(text: &mut StandingText, pairs: &[PairFields], call: Option<&TableCall>)
     requires { array_string_len text.old + CALL_BYTES ≤ STANDING_BYTES }
     ensures line { text.new.bytes ≡ text.old.bytes ++ lines_text (call_lines (map pair_of pairs.now) (option_copied call.entry)) }
     ensures room { array_string_len text.new ≤ array_string_len text.old + CALL_BYTES }
@@ -78,53 +75,6 @@ fn push_call_if(text: &mut StandingText, pairs: &[PairFields], call: Option<&Tab
     if let Some(call) = call {
         push_call(text, pairs, call);
     }
-}
-
-/// Adds what was said with a claim, if something was.
-fn push_said(text: &mut StandingText, claim: Option<StandingClaim>, statement: Option<&Statement>)
-    requires { array_string_len text.old + STATEMENT_BYTES ≤ STANDING_BYTES }
-    ensures line { text.new.bytes ≡ text.old.bytes ++ lines_text (said_lines claim (option_copied statement.entry)) }
-    ensures room { array_string_len text.new ≤ array_string_len text.old + STATEMENT_BYTES }
-{
-    match (claim, statement) {
-        (Some(claim), Some(statement)) if statement.is_of(claim) => {
-            push_line(text, "STATEMENT", statement.text.as_str());
-        }
-        _ => {}
-    }
-}
-
-/// Adds the call of the table where the player of the key sits.
-fn push_own_call(text: &mut StandingText, session: &Session, desk: &Desk, key: Key)
-    requires { array_string_len text.old + CALL_BYTES ≤ STANDING_BYTES }
-    ensures line { text.new.bytes ≡ text.old.bytes ++ lines_text (own_call_lines session.now.configuration.pairs desk.now (seating_of session.now.configuration session.now.round key.0)) }
-    ensures room { array_string_len text.new ≤ array_string_len text.old + CALL_BYTES }
-{
-    let pairs = &session.config().fields().pairs;
-    if let Ok(seating) = seat_by(session.config(), session.round(), key) {
-        push_call_if(text, pairs, desk.call_at(seating.table));
-    }
-}
-
-/// Adds what was said with the claim that the player of the key is shown.
-fn push_own_said(text: &mut StandingText, session: &Session, desk: &Desk, key: Key)
-    requires { array_string_len text.old + STATEMENT_BYTES ≤ STANDING_BYTES }
-    ensures line { text.new.bytes ≡ text.old.bytes ++ lines_text (own_said_lines desk.now (claim_to session.now key.0)) }
-    ensures room { array_string_len text.new ≤ array_string_len text.old + STATEMENT_BYTES }
-{
-    if let Ok(seen) = claim_to(session, key) {
-        push_said(text, seen.claim, desk.statement_at(seen.table));
-    }
-}
-
-/// Adds what is told of his own table to the player of the key.
-fn push_own(text: &mut StandingText, session: &Session, desk: &Desk, key: Key)
-    requires { array_string_len text.old + 12 * CALL_BYTES ≤ STANDING_BYTES }
-    ensures line { text.new.bytes ≡ text.old.bytes ++ lines_text (own_lines session.now desk.now key.0) }
-    ensures room { array_string_len text.new ≤ array_string_len text.old + 12 * CALL_BYTES }
-{
-    push_own_call(text, session, desk, key);
-    push_own_said(text, session, desk, key);
 }
 
 /// Adds the line of the call of a table, if it has called.
@@ -170,8 +120,8 @@ fn push_concerns(text: &mut StandingText, session: &Session, desk: &Desk, key: K
 }
 
 /// The standing lines, as they are told to the holder of a key: the notice, the second at which the clock ends, and what concerns
-/// him, which is the call of his table and what was said with the claim that he is shown there, or to the director all calls.
-/// They take no memory.
+/// him, which is the call of his table, what was said with the claim that he is shown there, and what was answered to it, or to
+/// the director all calls. They take no memory.
 pub fn standing_lines(session: &Session, desk: &Desk, key: Key) -> StandingText
     ensures { result.bytes ≡ lines_text (standing_lines session.now desk.now key.0) }
 {

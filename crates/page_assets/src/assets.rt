@@ -186,7 +186,10 @@ body.login main { max-width: 28rem; margin: auto; }
 .login .panel button { width: 100%; margin-top: .25rem; }
 .login .panel .send { min-height: 3.25rem; font-size: 1.125rem; }
 .login .panel label { display: block; min-height: 0; margin-bottom: .3rem; font-weight: bold; }
-.login .panel .large { margin: 0 0 .75rem; font-size: 1.625rem; }
+.login .panel .large { margin: 0; font-size: 1.625rem; }
+.login-head { margin-bottom: .75rem; }
+.login-head p { margin: 0 0 .25rem; }
+.login-head .second { font-size: 1rem; }
 .login .second { font-size: .875rem; }
 .login-more { margin-top: 1rem; }
 .login a.send { display: grid; place-items: center; min-height: 3.25rem; border-radius: .5rem; font-size: 1.125rem; font-weight: bold; text-decoration: none; }
@@ -1041,6 +1044,8 @@ pub const TEXTS_SCRIPT: &str = r##""use strict";
 
 const TEXTS = {
   title: "Bridge table",
+  planOf: (tables, _rounds, boards, scoring) => tables + " tables \u00b7 " + (boards === "1" ? "1 board" : boards + " boards") + " a round \u00b7 " + (scoring === "MP" ? "matchpoints" : "IMPs"),
+  youMeet: (pair) => "You meet pair " + pair,
   yourTurn: "\u25cf Your turn \u2013 Bridge table",
   pieces: { S: "spade", H: "heart", D: "diamond", C: "club", N: "no trump" },
   suits: { S: "spades", H: "hearts", D: "diamonds", C: "clubs" },
@@ -1225,7 +1230,8 @@ const TEXTS = {
   answerWaited: "Your answer is waited for",
   youAgreed: (seat) => "You have agreed. " + seat + " is asked.",
   reallyRefuse: "Really refuse?",
-  waitPlease: "Please wait.",
+  agrees: (seats) => seats.join(" and ") + (seats.length === 1 ? " agrees." : " agree."),
+  areAsked: (seats) => seats.join(" and ") + (seats.length === 1 ? " is asked." : " are asked."),
   claimed: (seat, tricks) => seat + " claimed " + tricks + (tricks === "1" ? " trick" : " tricks") + ", and it was agreed.",
   claimWaits: (seat, tricks) => seat + " claims " + tricks + (tricks === "1" ? " trick" : " tricks") + ", and not all have answered.",
   hasClaimed: (seat, tricks) => seat + " claimed " + tricks + (tricks === "1" ? " trick." : " tricks."),
@@ -1233,6 +1239,7 @@ const TEXTS = {
   cardBack: "The director has taken back the last card.",
   endedByRuling: (board) => "Board " + board + " is not played on: the director has ruled so.",
   claimRefused: "The claim stands no more: it was refused, or the director took it back. Play goes on.",
+  claimRefusedBy: (seat) => seat + " does not agree to the claim. Play goes on; call the director if need be.",
 
   // Between the boards, and at the end.
   boardsOf: (first, last) => (first === last ? "Board " + first : "Boards " + first + " to " + last),
@@ -1734,6 +1741,29 @@ function rankingNode(reply, alone, own, names) {
 
 // ---- who has logged in, and when the page looks
 
+// The event, its site, date and plan, as the server tells them before anybody has sat down; null until it has.
+let evening = null;
+async function askEvening() {
+  if (evening !== null) return;
+  const reply = await ask("/desk", "");
+  if (reply === null || refusal(reply)) return;
+  const told = Object.fromEntries(reply.split("\n").map((line) => [line.split(" ")[0], line.split(" ").slice(1)]));
+  if (!told.PLAN) return;
+  evening = { event: spaced(told.EVENT[0]), site: spaced(told.SITE[0]), date: told.DATE[0], plan: told.PLAN };
+  if (at("login-head")) at("login-head").replaceChildren(...eveningNodes());
+}
+
+// A name of the configuration, which has hyphens for blanks.
+const spaced = (name) => name.replace(/-/g, " ");
+
+function eveningNodes() {
+  const large = (words) => make("p", { className: "large" }, words);
+  if (evening === null) return [large(TEXTS.title)];
+  const [year, month, day] = evening.date.split(".").map(Number);
+  const date = new Date(year, month - 1, day).toLocaleDateString([], { weekday: "long", day: "numeric", month: "long", year: "numeric" });
+  return [make("p", { className: "second" }, evening.site), large(evening.event), make("p", null, date), make("p", { className: "second" }, TEXTS.planOf(...evening.plan))];
+}
+
 function showLogin() {
   at("title").textContent = TEXTS.title;
   at("below").textContent = "";
@@ -1753,7 +1783,7 @@ function showLogin() {
     };
     field.setAttribute("aria-describedby", "wrong key-help");
     const form = make("form", { onsubmit: enter, className: "panel" },
-      make("div", { className: "login-head" }, make("p", { className: "large", aria_hidden: "true" }, TEXTS.title)),
+      make("div", { className: "login-head", id: "login-head" }, ...eveningNodes()),
       make("div", { className: "login-key" }, make("label", { for: "key" }, TEXTS.yourKey), field, make("p", { id: "wrong", role: "alert" }),
         make("p", { id: "key-help", className: "second" }, TEXTS.keyHelp), make("button", { type: "submit", className: "send" }, TEXTS.sitDown)),
       make("div", { className: "login-more" }, make("p", { className: "second" }, TEXTS.slipLost), button(TEXTS.textAndColours, "", "colours", true, showMenu)));
@@ -1764,6 +1794,7 @@ function showLogin() {
     return [form];
   });
   if (document.activeElement === document.body) at("key").focus();
+  askEvening();
 }
 
 function leave() {
@@ -2254,6 +2285,8 @@ function boxKey(event) {
 }
 
 // Of a long auction the row in which a call is due is in view.
+// It is asked for with the next frame, in which the page is laid out once; until then nothing is drawn.
+const inFrame = (act) => (typeof requestAnimationFrame === "function" ? requestAnimationFrame(act) : act());
 function showNewest() {
   const [box, due] = [at("auction"), at("due-call")];
   if (box) box.scrollTop = due ? due.offsetTop + due.offsetHeight - box.clientHeight : box.scrollHeight;
@@ -2492,9 +2525,10 @@ function lastSheet(place, view) {
 // Answers to a claim that this player is asked for.
 function answerDock(place, view) {
   const line = (word) => word + " " + key + " " + view.board + " " + view.made.claims;
+  const told = [desk.said ? TEXTS.saidWith(desk.said) : "", desk.agreed.map((seat) => TEXTS.agrees([SEAT_NAMES[seat]])).join(" ")].filter(Boolean);
   return make("section", { id: "dock", className: "claimed", aria_label: TEXTS.theClaim },
     make("p", null, make("b", null, TEXTS.claims(SEAT_NAMES[view.claim.seat], view.claim.tricks, leftOf(view))), make("br"),
-      claimWords(place, view, view.claim.seat, Number(view.claim.tricks)) + TEXTS.ifAgreed, ...(desk.said ? [make("br"), TEXTS.saidWith(desk.said)] : [])),
+      claimWords(place, view, view.claim.seat, Number(view.claim.tricks)) + TEXTS.ifAgreed, ...told.flatMap((words) => [make("br"), words])),
     refuseButton(line("REFUSE")), button(TEXTS.agree, "", "agree", true, (event) => { if (!isDeaf(event)) send(line("AGREE")); }));
 }
 
@@ -2521,6 +2555,14 @@ function playDock(place, view) {
 
 const toPlay = (view, lead) => (view.turn === view.seat ? TEXTS.youAreToPlay : TEXTS.isToPlay(SEAT_NAMES[view.turn], lead));
 
+// Whom the claim asks (Law 68): declarer's both defenders, a defender's declarer alone; who of them has agreed, and who has not.
+function answersWords(place, view) {
+  const { declarer } = place.contract;
+  const asked = view.claim.seat === declarer ? SEATS.filter((seat) => seat !== declarer && seat !== partner(declarer)) : [declarer];
+  const [agreed, due] = [true, false].map((is) => asked.filter((seat) => desk.agreed.includes(seat) === is).map((seat) => SEAT_NAMES[seat]));
+  return [agreed.length ? TEXTS.agrees(agreed) : "", due.length ? TEXTS.areAsked(due) : ""].filter(Boolean).join(" ");
+}
+
 // Declarer's claim asks both defenders: whose answer is due no more has agreed, and his partner is asked.
 const hasAgreed = (place, view) => view.claim.seat === place.contract.declarer && isOther(view, view.claim.seat) && !place.answer;
 
@@ -2530,7 +2572,7 @@ function waiting(place, view) {
     const { seat, tricks } = view.claim;
     if (place.answer) return TEXTS.answerWaited;
     if (hasAgreed(place, view)) return TEXTS.youAgreed(SEAT_NAMES[partner(view.seat)]);
-    return (seat === view.seat ? TEXTS.youClaim(tricks, leftOf(view)) : TEXTS.claims(SEAT_NAMES[seat], tricks, leftOf(view))) + TEXTS.waitPlease;
+    return (seat === view.seat ? TEXTS.youClaim(tricks, leftOf(view)) : TEXTS.claims(SEAT_NAMES[seat], tricks, leftOf(view))) + answersWords(place, view);
   }
   if (!view.playing) return view.turn === view.seat ? TEXTS.yourTurnToCall : TEXTS.isToCall(SEAT_NAMES[view.turn]);
   const played = handPlayed(place, view);
@@ -2593,6 +2635,9 @@ function playGoesOn(place, view) {
 
 let before = null;
 
+// Why a claim stands no more, as far as it is told.
+const claimFell = () => (desk.refusedBy ? TEXTS.claimRefusedBy(SEAT_NAMES[desk.refusedBy]) : TEXTS.claimRefused);
+
 // What came since the last view of the same board, in words.
 function news(view) {
   const old = before;
@@ -2603,7 +2648,7 @@ function news(view) {
   const cards = view.trick.length ? view.trick : view.made.cards === old.made.cards ? [] : view.last;
   const fresh = Number(view.made.cards) - Number(old.made.cards);
   cards.slice(Math.max(0, cards.length - fresh)).forEach(({ seat, card }) => said.push(SEAT_NAMES[seat] + ": " + cardName(card)));
-  if (old.claim && !view.claim) sayPassing(TEXTS.claimRefused);
+  if (old.claim && !view.claim) sayPassing(claimFell());
   if (fresh < 0) sayPassing(TEXTS.cardBack);
   else if (view.calls.length < old.calls.length) sayPassing(TEXTS.callBack);
   if (view.last.length && view.trick.length === 0 && fresh > 0) said.push(TEXTS.trickTo(SEAT_NAMES[view.turn]));
@@ -2667,13 +2712,23 @@ function wayText(table, next) {
   return up === 0 ? TEXTS.stay : TEXTS.goTo(next.number, up);
 }
 
+// Whom he meets at his next table.
+function meetNodes(next) {
+  if (desk.meets === null) return [];
+  const names = shownAt(desk.meets.names);
+  const others = SEATS.filter((seat) => seat !== next.seat && seat !== partner(next.seat));
+  const pair = others.includes("N") ? desk.meets.ns : desk.meets.ew;
+  return [make("h2", null, TEXTS.youMeet(pair)), make("ul", { className: "names" },
+    ...others.map((seat) => make("li", null, make("span", { className: "mark", aria_label: SEAT_NAMES[seat] }, seat), names[seat])))];
+}
+
 function betweenNodes(place, next) {
   const nodes = [];
   if (next) {
     nodes.push(make("section", { className: "panel" }, make("p", { className: "second" }, TEXTS.nextOf(place.round + 1, place.rounds)),
       make("p", { className: "large" }, TEXTS.tableSeat(next.number, SEAT_NAMES[next.seat])),
       make("p", null, TEXTS.boardsOf(next.first, next.last) + ". ",
-        make("b", null, wayText(place.table, next))), ...wayNodes(place.table, next),
+        make("b", null, wayText(place.table, next))), ...wayNodes(place.table, next), ...meetNodes(next),
       make("p", { className: "second" }, TEXTS.roundBegins)));
   }
   const here = make("section", { className: "panel" }, make("p", { className: "second" }, TEXTS.roundOf(place.round, place.rounds)));
@@ -2746,7 +2801,7 @@ function showView(placeReply, reply) {
     barFor(place, null);
     const goesTo = (done || refused === "SitsOut") && place.next;
     nextRound = goesTo ? place.round + 1 : null;
-    show(made + told.text, status, "between" + (goesTo ? " goes-on" : ""), () => betweenNodes(place, goesTo));
+    show(made + told.text + JSON.stringify(desk.meets), status, "between" + (goesTo ? " goes-on" : ""), () => betweenNodes(place, goesTo));
     return;
   }
   const view = readView(reply);
@@ -2759,10 +2814,10 @@ function showView(placeReply, reply) {
   if (said) say("heard", said);
   if (showLeaf(place, (mine ? TEXTS.nextYours : TEXTS.nextBoard)(view.board))) return;
   barFor(place, view);
-  drawn = () => show(made + JSON.stringify([marked, claiming, looking, isSafe(), desk.said]),
+  drawn = () => show(made + JSON.stringify([marked, claiming, looking, isSafe(), desk.said, desk.agreed]),
     waiting(place, view), shapeOf(place, view) + (mine ? " mine" : ""), () => playNodes(place, view), moveFocus);
   drawn();
-  showNewest();
+  inFrame(showNewest);
   playLast(place, view);
 }
 
@@ -2879,6 +2934,8 @@ async function act(line) {
   onWay = /^C(ALL|ARD) /.test(line) ? line.slice(0, 4).toLowerCase() + "-" + line.split(" ").pop() : "";
   drawn();
   const timers = sayLate(onWay);
+  // Whoever refuses a claim says so first, so that the others are told who did.
+  if (line.startsWith("REFUSE ")) await ask("/desk", asked + " REFUSAL");
   // The answer, and what there is to see then.
   const reply = await ask("/lines", line + "\nSEE " + asked + "\n");
   timers.forEach(clearTimeout);
@@ -3383,14 +3440,14 @@ async function lookAtBoards(asked, place, now) {
 
 /// The script of what stands beside the session.
 pub const DESK_SCRIPT: &str = r##""use strict";
-// What stands beside the session: the director's notice, the round's clock, calls for the director, and what was said with a
-// claim. The server keeps it for as long as it runs.
+// What stands beside the session: the director's notice, the round's clock, calls for the director, what was said with a claim,
+// and who agreed to it or refused it. The server keeps it for as long as it runs.
 
 // How many seconds left of the clock are said.
 const CLOCK_SAID = [300, 60];
 const SECOND = 1000;
 
-const nothingStands = () => ({ notice: "", clock: null, calls: [], said: "", now: 0, at: 0, ends: null, disk: "" });
+const nothingStands = () => ({ notice: "", clock: null, calls: [], said: "", agreed: [], refusedBy: "", meets: null, now: 0, at: 0, ends: null, disk: "" });
 // Minutes before the end of the pages from which on they say so.
 const ENDS_SOON = 10;
 let desk = nothingStands();
@@ -3421,6 +3478,12 @@ const DESK_LINES = {
     found.calls.push({ table, minutes: Math.floor(seconds / 60), time: timeText(found.at - SECOND * seconds), pair, name, text: wordsFrom(line, 5) });
   },
   STATEMENT: (found, line) => { found.said = wordsFrom(line, 1); },
+  AGREED: (found, line) => { found.agreed.push(wordsFrom(line, 1)); },
+  REFUSED: (found, line) => { found.refusedBy = wordsFrom(line, 1); },
+  MEETS: (found, line) => {
+    const [, ns, ew, N, E, S, W] = line.split(" ");
+    found.meets = { ns, ew, names: { N, E, S, W } };
+  },
 };
 
 function readDesk(reply) {
@@ -3445,6 +3508,7 @@ function takeDesk(reply) {
   desk = readDesk(reply);
   const isBack = passing !== null && [TEXTS.callBack, TEXTS.cardBack].includes(passing.text);
   if (called && desk.calls.length === 0 && !isDirector() && !isBack) sayPassing(TEXTS.directorComes);
+  if (passing !== null && passing.text === TEXTS.claimRefused && desk.refusedBy) sayPassing(claimFell(), passing.where);
   showDesk();
 }
 
@@ -4574,11 +4638,14 @@ pub const WRONG_HOST: &str = r##"<!doctype html>
 <meta name="color-scheme" content="light dark">
 <title>Another name</title>
 <link rel="icon" href="data:,">
+<link rel="stylesheet" href="/table.css">
 </head>
-<body>
-<main class="panel">
-<h1>Another name</h1>
-<p>The bridge tables are not shown under the name in this address. Type the address that the director has given out, letter by letter.</p>
+<body class="login">
+<main>
+<div class="panel">
+<div class="login-head"><h1 class="large">Another name</h1></div>
+<div class="login-key"><p>The bridge tables are not shown under the name in this address.</p><p class="second">Type the address that the director has given out, letter by letter.</p></div>
+</div>
 </main>
 </body>
 </html>

@@ -1,5 +1,5 @@
 -- Where a request goes.
-use Rattle.std.specs.Prelude.{ℕ, Bool, false, ◌||◌, List, Option, Some, None, bytes_eq, codes, if◌then◌else◌}
+use Rattle.std.specs.Prelude.{ℕ, Bool, false, ◌&&◌, ◌||◌, List, Option, Some, None, bytes_eq, codes, if◌then◌else◌}
 use Rattle.http.specs.declared.request.Parts.{Parts}
 use Rattle.http_header.specs.FieldValue.{FieldValue}
 use Rattle.http_header.specs.HeaderMap.{get}
@@ -30,10 +30,13 @@ is_here host alias head = is_addressed host alias (uri_authority head.uri) (get 
 abbrev pub lines_type : List ℕ
 lines_type = codes "application/x-table-lines"
 
+-- a method by which something is read
+abbrev pub is_read : List ℕ → Bool
+is_read method = bytes_eq method (codes "GET") || bytes_eq method (codes "HEAD")
+
 -- what is read alone
 abbrev pub reading : Route → List ℕ → Route
-reading route method =
-    if bytes_eq method (codes "GET") || bytes_eq method (codes "HEAD") then route else Refused OnlyRead
+reading route method = if is_read method then route else Refused OnlyRead
 
 -- what lines are posted to, with no query behind its path
 abbrev pub posting_to : Route → Parts → Route
@@ -72,6 +75,11 @@ route_at path head =
     if bytes_eq path (codes "/wait") then posting Wait head else (
     if bytes_eq path (codes "/names") then posting Names head else Refused NotFound))))))))))))))))
 
+-- where a request under another name goes: the style alone is read there, so that the page which says so has it
+abbrev pub route_elsewhere : List ℕ → List ℕ → Route
+route_elsewhere path method = if bytes_eq path (codes "/table.css") && is_read method then Style else Refused Misdirected
+
 -- where a request goes that came to a server of these two names
 abbrev pub route_for : List ℕ → List ℕ → Parts → Route
-route_for host alias head = if is_here host alias head then route_at (uri_path head.uri) head else Refused Misdirected
+route_for host alias head =
+    if is_here host alias head then route_at (uri_path head.uri) head else route_elsewhere (uri_path head.uri) head.method

@@ -1,7 +1,8 @@
 //! Where a request goes.
 ghost use Rattle.std.specs.Prelude.{◌≡◌};
 ghost use Rattle.http.specs.Request.{head_of};
-ghost use Rattle.web_requests.specs.Route.{is_here, reading, posting, route_for};
+ghost use Rattle.http_uri.specs.Uri.{uri_path};
+ghost use Rattle.web_requests.specs.Route.{is_here, is_read, reading, posting, route_elsewhere, route_for};
 
 use bytes::Bytes;
 use http::Request;
@@ -51,7 +52,8 @@ pub enum Route {
 /// Why a request is refused, in the order in which it is judged.
 #[derive(Clone, Copy, Debug, PartialEq, Eq)]
 pub enum Refusal {
-    /// 421: the request names no host, or another than this one, as where a name of another site was bound to this address.
+    /// 421: the request names no host, or another than this one, as where a name of another site was bound to this address, and
+    /// does not read the style.
     Misdirected,
     /// 404: there is nothing at its path, or what is there is asked alone and a query stands behind the path.
     NotFound,
@@ -76,7 +78,7 @@ pub fn route_of(host: &str, alias: &str, request: &Request<Bytes>) -> Route
     ensures { result ≡ route_for host.now alias.now (head_of request.now) }
 {
     if !is_here(host, alias, request) {
-        return Route::Refused(Refusal::Misdirected);
+        return elsewhere(request);
     }
     match request.uri().path() {
         "/" => reading(request, Route::Page),
@@ -116,13 +118,35 @@ fn is_here(host: &str, alias: &str, request: &Request<Bytes>) -> bool
     }
 }
 
+/// Where a request under another name goes: the style alone is read there, so that the page which says so has it.
+fn elsewhere(request: &Request<Bytes>) -> Route
+    ensures { result ≡ route_elsewhere (uri_path (head_of request.now).uri) (head_of request.now).method }
+{
+    if request.uri().path() == "/table.css" && is_read(request) {
+        Route::Style
+    } else {
+        Route::Refused(Refusal::Misdirected)
+    }
+}
+
+/// Whether something is read by the request's method.
+fn is_read(request: &Request<Bytes>) -> bool
+    ensures { result ≡ is_read (head_of request.now).method }
+{
+    match request.method().as_str() {
+        "GET" | "HEAD" => true,
+        _ => false,
+    }
+}
+
 /// The route of a path that is read, and of any other method.
 fn reading(request: &Request<Bytes>, route: Route) -> Route
     ensures { result ≡ reading route (head_of request.now).method }
 {
-    match request.method().as_str() {
-        "GET" | "HEAD" => route,
-        _ => Route::Refused(Refusal::OnlyRead),
+    if is_read(request) {
+        route
+    } else {
+        Route::Refused(Refusal::OnlyRead)
     }
 }
 
