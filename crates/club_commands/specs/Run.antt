@@ -5,7 +5,7 @@ use Rattle.clap.specs.Words.{fault_of}
 use Rattle.bridge_cards.specs.Board.{dealer_of}
 use Rattle.auction_command.specs.Heard.{AnswersAll, StopsAt}
 use Rattle.command_line.specs.Words.{club_app, AsksCommand}
-use Rattle.command_line.specs.declared.command.WebHost.{WebHost}
+use Rattle.command_line.specs.declared.command.WebWords.{WebWords}
 use Rattle.command_line.specs.declared.command.Command.{Command}
 use Rattle.command_line.specs.declared.command.Command.TheVariants.{Auction, Format, Script, Correct, Serve, Web, Rank, Pbn, Results, Export, Check, Plan, Draft, Slips, Evening, Makeable, Copy, Version}
 use Rattle.command_line.specs.declared.command.WordsFault.{WordsFault}
@@ -36,9 +36,13 @@ abbrev pub version_line : List ℕ
 version_line = (((codes "bridge_club " ++ VERSION.now) ++ codes ", proved with ") ++ KIT.now) ++ codes "\n"
 
 -- pages of these texts are shown over the session that a disk holds, or that two do
-abbrev pub RunsWeb : PageTexts → Bor (List ℕ) → WebHost → ℕ → Option (Bor (List ℕ)) → Option (Bor (List ℕ)) → Stream → Stream → Ended → Type 0
-RunsWeb texts disk host minutes names None input output ended = WithList (HasListed (listed.Pages texts host minutes disk Refused)) names input output ended
-RunsWeb texts disk host minutes names (Some copy) input output ended = ShowsTwoListed texts host output ended names × IsUntouched input
+abbrev pub ShowsWeb : PageTexts → Bor (List ℕ) → WebWords → Option (Bor (List ℕ)) → Stream → Stream → Ended → Type 0
+ShowsWeb texts disk web None input output ended = WithList (HasListed (listed.Pages texts web.host web.minutes disk Refused)) web.names input output ended
+ShowsWeb texts disk web (Some copy) input output ended = ShowsTwoListed texts web.host output ended web.names × IsUntouched input
+
+-- what `web` shows
+abbrev pub RunsWeb : PageTexts → Bor (List ℕ) → WebWords → Stream → Stream → Ended → Type 0
+RunsWeb texts disk web input output ended = ShowsWeb texts disk web web.copy input output ended
 
 -- what a command of a program with these pages read from standard input and wrote to standard output, and how it ended
 abbrev pub Runs : PageTexts → Command → Stream → Stream → Ended → Type 0
@@ -47,7 +51,7 @@ Runs texts (Format disk config) input output ended = HasFormatted input output e
 Runs texts (Script disk) input output ended = HasWorked input output ended (work.Serve (service.Input Protocol))
 Runs texts (Correct disk) input output ended = HasWorked input output ended (work.Serve (service.Input Corrections))
 Runs texts (Serve disk port count) input output ended = HasWorked input output ended (work.Serve (service.Connections port count))
-Runs texts (Web disk host minutes names copy) input output ended = RunsWeb texts disk host minutes names copy input output ended
+Runs texts (Web disk pages) input output ended = RunsWeb texts disk pages input output ended
 Runs texts (Rank disk) input output ended = HasWorked input output ended (work.Tell Ranking)
 Runs texts (Pbn disk) input output ended = HasWorked input output ended (work.Tell Games)
 Runs texts (Results disk html names) input output ended = WithList (HasListed (listed.Results html)) names input output ended

@@ -1,11 +1,11 @@
 //! The commands over the session on a disk, by their words.
+ghost use Rattle.std.specs.Prelude.{None};
 ghost use Rattle.line_text.specs.Streams.{stream};
 ghost use Rattle.table_server.specs.declared.line_set.LineSet.TheVariants.{Corrections};
 ghost use Rattle.club_commands.specs.Listed.{WithList};
-ghost use Rattle.club_commands.specs.Run.{RunsWeb};
+ghost use Rattle.club_commands.specs.Run.{ShowsWeb, RunsWeb};
 ghost use Rattle.club_commands.specs.Works.{HasListed, HasWorked};
-ghost use Rattle.club_commands.specs.declared.work.Listed.TheVariants.{Pages as ListedPages, Results as ListedResults};
-ghost use Rattle.club_commands.specs.declared.work.Misfit.TheVariants.{Refused};
+ghost use Rattle.club_commands.specs.declared.work.Listed.TheVariants.{Results as ListedResults};
 ghost use Rattle.club_commands.specs.declared.work.Service.TheVariants.{Connections, Input};
 ghost use Rattle.club_commands.specs.declared.work.Work.TheVariants.{Export, Serve, Tell};
 
@@ -15,7 +15,7 @@ use crate::listed::run_listed;
 use crate::machine::Machine;
 use crate::on_disk::run_over;
 use crate::work::{Listed, Misfit, Service, Shown, Told, Work};
-use command_line::WebHost;
+use command_line::WebWords;
 use std::alloc::Global;
 use std::io::{Read, Write};
 use table_pages::PageTexts;
@@ -73,23 +73,20 @@ fn show_tables<S: Machine, R: Read, W: Write>(
     alloc: Global,
     texts: PageTexts,
     disk: &str,
-    host: WebHost<'_>,
-    minutes: u16,
-    names: Option<&str>,
+    pages: &WebWords<'_>,
     input: &mut R,
     output: &mut W,
 ) -> Result<(), RunFault>
-    ensures { WithList (HasListed (ListedPages texts host.entry minutes disk.entry Refused)) names.entry
-        (stream R.remaining input.old input.new) (stream W.contents output.old output.new) result }
+    ensures { ShowsWeb texts disk.entry pages.now None (stream R.remaining input.old input.new) (stream W.contents output.old output.new) result }
 {
-    let pages = Listed::Pages {
+    let listed = Listed::Pages {
         texts,
-        host,
-        minutes,
+        host: pages.host,
+        minutes: pages.minutes,
         disk,
         misfit: Misfit::Refused,
     };
-    run_listed(rt, alloc, disk, &pages, names, input, output)
+    run_listed(rt, alloc, disk, &listed, pages.names, input, output)
 }
 
 /// The same, or over the session that the disks in two files hold.
@@ -98,28 +95,24 @@ pub fn run_web<S: Machine, R: Read, W: Write>(
     alloc: Global,
     texts: PageTexts,
     disk: &str,
-    host: WebHost<'_>,
-    minutes: u16,
-    names: Option<&str>,
-    copy: Option<&str>,
+    pages: &WebWords<'_>,
     input: &mut R,
     output: &mut W,
 ) -> Result<(), RunFault>
-    ensures { RunsWeb texts disk.entry host.entry minutes names.entry copy.entry (stream R.remaining input.old input.new)
-        (stream W.contents output.old output.new) result }
+    ensures { RunsWeb texts disk.entry pages.now (stream R.remaining input.old input.new) (stream W.contents output.old output.new) result }
 {
-    match copy {
-        None => show_tables(rt, alloc, texts, disk, host, minutes, names, input, output),
+    match pages.copy {
+        None => show_tables(rt, alloc, texts, disk, pages, input, output),
         Some(copy) => {
             let shown = Shown {
                 texts,
-                host,
-                minutes,
+                host: pages.host,
+                minutes: pages.minutes,
                 misfit: Misfit::Refused,
                 names: None,
             };
             let disks = TwoDisks { disk, copy };
-            show_copied(rt, alloc, &shown, disks, names, output)
+            show_copied(rt, alloc, &shown, disks, pages.names, output)
         }
     }
 }

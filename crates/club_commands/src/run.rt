@@ -121,15 +121,7 @@ fn do_command<S: Machine, R: Read, W: Write>(
         Command::Script { disk } => serve_set(rt, alloc, disk, LineSet::Protocol, input, output),
         Command::Correct { disk } => correct(rt, alloc, disk, input, output),
         Command::Serve { disk, port, count } => accept(rt, alloc, disk, port, count, input, output),
-        Command::Web {
-            disk,
-            host,
-            minutes,
-            names,
-            copy,
-        } => run_web(
-            rt, alloc, texts, disk, host, minutes, names, copy, input, output,
-        ),
+        Command::Web { disk, pages } => run_web(rt, alloc, texts, disk, &pages, input, output),
         Command::Rank { disk } => tell(rt, alloc, disk, Told::Ranking, input, output),
         Command::Pbn { disk } => tell(rt, alloc, disk, Told::Games, input, output),
         Command::Results { disk, html, names } => write_page(

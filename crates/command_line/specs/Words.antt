@@ -9,6 +9,7 @@ use Rattle.clap.specs.declared.builder.value_parser.ValueParser.TheVariants as p
 use Rattle.command_line.specs.declared.command.Command.{Command}
 use Rattle.command_line.specs.declared.command.Command.TheVariants.{Auction, Format, Script, Correct, Serve, Web, Rank, Pbn, Results, Check, Plan, Draft, Slips, Evening, Makeable, Export, Copy, Version}
 use Rattle.command_line.specs.declared.command.WebHost.{WebHost}
+use Rattle.command_line.specs.declared.command.WebWords.{WebWords}
 use Rattle.command_line.specs.declared.command.DraftWords.{DraftWords}
 use Rattle.command_line.specs.declared.command.SlipWords.{SlipWords}
 use Rattle.command_line.specs.declared.command.EveningWords.{EveningWords}
@@ -293,6 +294,11 @@ abbrev pub HasSlips : List Row → SlipWords → Type 0
 HasSlips rows slips = HasOption rows (codes "names") slips.names
     × HasOption rows (codes "address") slips.address × HasFlag rows (codes "text") slips.text
 
+-- the port, the minutes and the options of `web`
+abbrev pub HasPages : List Row → WebWords → Type 0
+HasPages rows pages = HasHost rows pages.host × HasNumber 16 rows (codes "MINUTES") pages.minutes × HasOption rows (codes "names") pages.names
+    × HasOption rows (codes "copy") pages.copy
+
 -- the list, the disk, the options of `draft`, and the arguments of `web`
 abbrev pub HasEvening : List Row → EveningWords → Type 0
 HasEvening rows words = HasText rows (codes "NAMES") words.names.now × HasText rows (codes "DISK") words.disk.now
@@ -306,9 +312,7 @@ HasWords rows (Script disk) = HasText rows (codes "DISK") disk.now
 HasWords rows (Correct disk) = HasText rows (codes "DISK") disk.now
 HasWords rows (Serve disk port count) = HasText rows (codes "DISK") disk.now
     × HasNumber 16 rows (codes "PORT") port × HasNumber 16 rows (codes "COUNT") count
-HasWords rows (Web disk host minutes names copy) = HasText rows (codes "DISK") disk.now
-    × HasHost rows host × HasNumber 16 rows (codes "MINUTES") minutes × HasOption rows (codes "names") names
-    × HasOption rows (codes "copy") copy
+HasWords rows (Web disk pages) = HasText rows (codes "DISK") disk.now × HasPages rows pages
 HasWords rows (Rank disk) = HasText rows (codes "DISK") disk.now
 HasWords rows (Pbn disk) = HasText rows (codes "DISK") disk.now
 HasWords rows (Results disk html names) = HasText rows (codes "DISK") disk.now × HasFlag rows (codes "html") html
@@ -330,7 +334,7 @@ name_of (Format disk config) = codes "format"
 name_of (Script disk) = codes "script"
 name_of (Correct disk) = codes "correct"
 name_of (Serve disk port count) = codes "serve"
-name_of (Web disk host minutes names copy) = codes "web"
+name_of (Web disk pages) = codes "web"
 name_of (Rank disk) = codes "rank"
 name_of (Pbn disk) = codes "pbn"
 name_of (Results disk html names) = codes "results"

@@ -38,14 +38,8 @@ pub enum Command<'a> {
     Web {
         /// DISK, the name of the disk's file.
         disk: &'a str,
-        /// Where the pages are shown.
-        host: WebHost<'a>,
-        /// MINUTES, from 1 to 1440.
-        minutes: u16,
-        /// The file with the names as people write them, in place of the configuration's names.
-        names: Option<&'a str>,
-        /// DISK2, the name of the file of a second disk that keeps the same session.
-        copy: Option<&'a str>,
+        /// What is shown there.
+        pages: WebWords<'a>,
     },
     /// `rank DISK`: the ranking of each field of the session that a disk holds.
     Rank {
@@ -137,6 +131,19 @@ pub struct WebHost<'a> {
     pub name: Option<&'a str>,
     /// Whether players are told of other tables from the start.
     pub open_boards: bool,
+}
+
+/// What the command `web` shows over a disk.
+#[derive(Clone, Copy, Debug, PartialEq, Eq)]
+pub struct WebWords<'a> {
+    /// Where the pages are shown.
+    pub host: WebHost<'a>,
+    /// MINUTES, from 1 to 1440.
+    pub minutes: u16,
+    /// The file with the names as people write them, in place of the configuration's names.
+    pub names: Option<&'a str>,
+    /// DISK2, the name of the file of a second disk that keeps the same session.
+    pub copy: Option<&'a str>,
 }
 
 /// What is wished of an evening.

@@ -1,9 +1,9 @@
 //! Reads the words after the program's name.
 ghost use Rattle.std.specs.Prelude.{IfOk, IfErr, IfSome, codes, map};
 ghost use Rattle.clap.specs.Words.{rows_of, found_of, subcommand_rows_of};
-ghost use Rattle.command_line.specs.Words.{HasNumber, HasFlag, HasOption, HasHost, IsCommand, IsNamed, AsksCommand, IsRefusedBy};
+ghost use Rattle.command_line.specs.Words.{HasNumber, HasFlag, HasOption, HasHost, HasPages, IsCommand, IsNamed, AsksCommand, IsRefusedBy};
 
-use crate::command::{Command, WebHost, WordsFault};
+use crate::command::{Command, WebHost, WebWords, WordsFault};
 use crate::declaration::club_command;
 use crate::evening_read::{draft_of, evening_of, slips_of};
 use bridge_cards::BoardNumber;
@@ -115,17 +115,24 @@ fn serve_of<'a>(found: &ArgMatches<'a>) -> Option<Command<'a>>
     Some(Command::Serve { disk, port, count })
 }
 
-/// The command `web` with its disk, its numbers, its list of names and its second disk.
+/// The command `web` with its disk and what it shows there.
 fn web_of<'a>(found: &ArgMatches<'a>) -> Option<Command<'a>>
     ensures { IfSome result (IsNamed (codes "web") (rows_of (found_of found.now))) }
 {
     let disk = found.get_str("DISK")?;
+    let pages = pages_of(found)?;
+    Some(Command::Web { disk, pages })
+}
+
+/// What `web` shows: where, for how long, with which names, and over which second disk.
+fn pages_of<'a>(found: &ArgMatches<'a>) -> Option<WebWords<'a>>
+    ensures { IfSome result (HasPages (rows_of (found_of found.now))) }
+{
     let host = host_of(found)?;
     let minutes = number_of(found, "MINUTES")?;
     let names = option_of(found, "names");
     let copy = option_of(found, "copy");
-    Some(Command::Web {
-        disk,
+    Some(WebWords {
         host,
         minutes,
         names,

@@ -8,9 +8,6 @@ returns c = (
   refl,
   (
     text_given (λ (s : Bor (List ℕ)). s.now) c.get_str.result c.in_ok-disk.disk (found_of c.args.found.now) (codes "DISK") c.get_str.ensures c.in_ok-disk.was,
-    c.in_ok-host.ensures,
-    c.in_ok-minutes.ensures,
-    c.option_of-names.ensures,
-    c.option_of-copy.ensures,
+    c.in_ok-pages.ensures,
   ),
 )
