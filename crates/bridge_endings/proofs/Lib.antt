@@ -31,3 +31,5 @@ pub mod TrumpTrick
 pub mod TopTrumps
 pub mod TrumpsThere
 pub mod TrumpsTested
+pub mod TopCards
+pub mod TopCardsTested

@@ -19,12 +19,12 @@ not_higher : (trump : Option Suit) (card other : ℕ) → same_suit other card �
 not_higher trump card other suited not_above = grind (arith, nat_tests)
 
 -- a card of another suit too, where it is no trump or the suit is trumps
-no_ruff : (trump : Option Suit) (card other : ℕ) → (same_suit other card ≡ true → card < other → ⊥) → (is_trump trump other ≡ false) ⊎ (is_trump trump card ≡ true) → is_or_beats trump card card other ≡ true
+pub no_ruff : (trump : Option Suit) (card other : ℕ) → (same_suit other card ≡ true → card < other → ⊥) → (is_trump trump other ≡ false) ⊎ (is_trump trump card ≡ true) → is_or_beats trump card card other ≡ true
 no_ruff trump card other not_above (inl none) = grind (arith, nat_tests)
 no_ruff None card other not_above (inr is) = cc
 no_ruff (Some suit) card other not_above (inr is) = grind (arith, nat_tests)
 
-left_not_in_hand : (is_left in_hand : Bool) → is_left ≡ true → in_hand ≡ false → (is_left && not in_hand) ≡ true
+pub left_not_in_hand : (is_left in_hand : Bool) → is_left ≡ true → in_hand ≡ false → (is_left && not in_hand) ≡ true
 left_not_in_hand true true p q = cc
 left_not_in_hand true false p q = refl
 left_not_in_hand false in_hand p q = cc

@@ -24,7 +24,7 @@ use Rattle.bridge_endings.proofs.Partners.{partner as card_like}
 use Rattle.bridge_endings.proofs.AgreedTrick.{counted_above}
 use Rattle.bridge_endings.proofs.TrickWon.{dealt_out_after, kept_card, two_cards, in_suit, by_one, by_all, IsWon, won}
 
-both_true : (a b : Bool) → a ≡ true → b ≡ true → (a && b) ≡ true
+pub both_true : (a b : Bool) → a ≡ true → b ≡ true → (a && b) ≡ true
 both_true true b p q = q
 both_true false b p q = cc
 
@@ -51,7 +51,7 @@ beats_other trump card led other suit differ does = at (card == other) refl
     at true is = absurd (differ (sym (eqb-true card other is)))
     at false is = sym (same_led trump card led card other suit) ∙ ap (λ b. b || beats trump card card other) (sym is) ∙ does
 
-not_beaten_led : (trump : Option Suit) (card other : ℕ) → is_or_beats trump card card other ≡ true → beats trump card other card ≡ false
+pub not_beaten_led : (trump : Option Suit) (card other : ℕ) → is_or_beats trump card card other ≡ true → beats trump card other card ≡ false
 not_beaten_led trump card other does = grind (arith, nat_tests)
 
 not_beaten : (trump : Option Suit) (card led other : ℕ) → same_suit led card ≡ true → is_or_beats trump card card other ≡ true → beats trump led other card ≡ false

@@ -40,9 +40,15 @@ place_of West East = (2, omega arith, refl)
 place_of West South = (3, omega arith, refl)
 place_of West West = (0, omega arith, refl)
 
+-- each seat has so many cards, if each place of the trick has
+pub each_done : (held : Seat → ℕ → Bool) (leader : Seat) (rest : ℕ) → ((k : ℕ) → k < 4 → count_by (held (clockwise_from leader k)) deck ≡ rest) → HasEach held rest
+each_done held leader rest done other =
+    let at = place_of leader other in
+    ap (λ (s : Seat). count_by (held s) deck) (sym at.2) ∙ done at.0 at.1
+
 -- ---- what is settled
 
-settled_by_none : (side : Side) (tricks need worth : ℕ) → IsSettledBy side 0 tricks need → worth ≤ tricks → nat_le need worth ≡ is_sought side
+pub settled_by_none : (side : Side) (tricks need worth : ℕ) → IsSettledBy side 0 tricks need → worth ≤ tricks → nat_le need worth ≡ is_sought side
 settled_by_none NorthSouth tricks need worth is few = le-leb need worth (omega (arith, is))
 settled_by_none EastWest tricks need worth is few = lt-leb need worth (omega (arith, is, few))
 
@@ -51,7 +57,7 @@ settled_more NorthSouth won more tricks need le is = omega (arith, le, is)
 settled_more EastWest won more tricks need le is = omega (arith, le, is)
 
 -- after a trick that the side wins, and after any
-settled_then : (side winner : Side) (won tricks need : ℕ) → winner ≡ side → IsSettledBy side (won + 1) (tricks + 1) need → IsSettledBy side won tricks (need - trick_for winner)
+pub settled_then : (side winner : Side) (won tricks need : ℕ) → winner ≡ side → IsSettledBy side (won + 1) (tricks + 1) need → IsSettledBy side won tricks (need - trick_for winner)
 settled_then NorthSouth NorthSouth won tricks need same is = omega (arith, is)
 settled_then NorthSouth EastWest won tricks need same is = absurd (cc)
 settled_then EastWest NorthSouth won tricks need same is = absurd (cc)
@@ -74,11 +80,6 @@ module _ (trump : Option Suit) (tops : ℕ → Bool) (upward : IsUpward tops) (t
   UnderWay held leader trick rest topped = IsUnderWay trump tops upward trumps seat held leader trick rest topped
 
   -- ---- one trick after another
-
-  each_done : (held : Seat → ℕ → Bool) (leader : Seat) (rest : ℕ) → ((k : ℕ) → k < 4 → count_by (held (place leader k)) deck ≡ rest) → HasEach held rest
-  each_done held leader rest done other =
-      let at = place_of leader other in
-      ap (λ (s : Seat). count_by (held s) deck) (sym at.2) ∙ done at.0 at.1
 
   module _ (rest : ℕ) (then : (held : Seat → ℕ → Bool) → IsDealtOut held → NoneOfTheirs tops held seat → HasEach held rest → (leader : Seat) (need : ℕ) → IsSettledBy side (held_of tops (held seat)) rest need → nat_le need (worth_with trump (4 * rest) held leader []) ≡ is_sought side) where
     after_trick : (held : Seat → ℕ → Bool) (leader : Seat) (trick : List ℕ) (topped : Bool) (need : ℕ) → length trick ≡ 4 → UnderWay held leader trick rest topped → IsSettledBy side (held_of tops (held seat) + one_if topped) (rest + 1) need

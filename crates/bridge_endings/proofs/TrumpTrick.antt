@@ -26,7 +26,7 @@ use Rattle.bridge_endings.proofs.TrickWon.{dealt_out_after}
 -- ---- hands while cards are played
 
 -- another hand stays as it is
-others_hand : (held : Seat → ℕ → Bool) → IsDealtOut held → (seat other : Seat) (played : ℕ) → same_seat other seat ≡ false → held seat played ≡ true → after_playing played held other ≡ held other
+pub others_hand : (held : Seat → ℕ → Bool) → IsDealtOut held → (seat other : Seat) (played : ℕ) → same_seat other seat ≡ false → held seat played ≡ true → after_playing played held other ≡ held other
 others_hand held out seat other played differs has =
     fun_ext {B = λ _. Bool} (λ card. at card (card == played) refl)
   where

@@ -81,7 +81,7 @@ tops_are hands left seat trump won lowest tops own suited common suits has upwar
   );
 }
 
-each_seat : (held : Seat → ℕ → Bool) (tricks : ℕ) → (count_by (held North) deck ≡ tricks) × (count_by (held East) deck ≡ tricks) × (count_by (held South) deck ≡ tricks) × (count_by (held West) deck ≡ tricks) → HasEach held tricks
+pub each_seat : (held : Seat → ℕ → Bool) (tricks : ℕ) → (count_by (held North) deck ≡ tricks) × (count_by (held East) deck ≡ tricks) × (count_by (held South) deck ≡ tricks) × (count_by (held West) deck ≡ tricks) → HasEach held tricks
 each_seat held tricks each North = each.0
 each_seat held tricks each East = each.1
 each_seat held tricks each South = each.2

@@ -66,7 +66,7 @@ module _ (counts : ℕ → Bool) (held other : Seat → ℕ → Bool) (out : IsD
   length_same seat led inside =
       omega (arith, count_parts (held seat) counts led, count_parts (other seat) counts led, same.small seat led inside, counted_alike counts held other same.high seat led)
 
-  all_same : (seat : Seat) → count_by (held seat) deck ≡ count_by (other seat) deck
+  pub all_same : (seat : Seat) → count_by (held seat) deck ≡ count_by (other seat) deck
   all_same seat =
       omega (
         arith,
@@ -78,7 +78,7 @@ module _ (counts : ℕ → Bool) (held other : Seat → ℕ → Bool) (out : IsD
         length_same seat 39 (omega arith),
       )
 
-  counted_same : (seat : Seat) → held_of counts (held seat) ≡ held_of counts (other seat)
+  pub counted_same : (seat : Seat) → held_of counts (held seat) ≡ held_of counts (other seat)
   counted_same seat = ap (λ p. count_by p deck) (fun_ext {B = λ _. Bool} (λ card. at card (counts card) refl))
     where
       at : (card : ℕ) (is : Bool) → counts card ≡ is → (counts card && held seat card) ≡ (counts card && other seat card)

@@ -1,5 +1,5 @@
 -- The index that wins a trick, when one card more is played: the new card's where it beats the winner, else the winner's.
-use Rattle.std.proofs.Common.{◌≡◌, ℕ, ◌<◌, Bool, true, false, ◌&&◌, ◌||◌, ◌==◌, cond, nat_lt, List, [], ◌∷◌, ◌++◌, length, get_or, slice_get, Option, Some, None, unwrap_or, refl, ap, ◌∙◌, arith, length-append}
+use Rattle.std.proofs.Common.{◌≡◌, ℕ, ◌<◌, Bool, true, false, not, ◌&&◌, ◌||◌, ◌==◌, cond, nat_le, nat_lt, List, [], ◌∷◌, ◌++◌, length, get_or, Option, Some, None, unwrap_or, refl, sym, ap, ◌∙◌, arith, length-append}
 use Rattle.std.specs.List.{list_all, position_or_len}
 use Rattle.std.proofs.lemmas.Bool.{eq-eqb}
 use Rattle.std.proofs.Math.Seq.{get_or-append_seam}
@@ -10,7 +10,10 @@ use Rattle.std.proofs.lemmas.List.Folds.{list_all-append}
 use Rattle.std.proofs.lemmas.List.Sums.{AllPass-from_list_all, list_all-from_AllPass, position_or_len_is}
 use Rattle.bridge_cards.specs.declared.suit.Suit.{Suit}
 use Rattle.bridge_cards.specs.Trick.{beats, is_or_beats, wins, winning_index}
-use Rattle.bridge_endings.specs.TrickValue.{IsWinning, IsKeptWinner}
+use Rattle.bridge_endings.specs.TrickValue.{IsWinning, IsKeptWinner, is_over}
+use Rattle.bridge_cards.specs.Card.{same_suit, card_suit}
+use Rattle.bridge_cards.specs.CardSet.{has_card, is_of_suit}
+use Rattle.bridge_cards.proofs.SuitHeld.{is_of_suit-card_suit}
 
 or_true : (a b : Bool) → b ≡ true → (a || b) ≡ true
 or_true true b is = refl
@@ -109,32 +112,84 @@ module _ (trump : Option Suit) (trick : List ℕ) (card index : ℕ) (is : IsWin
 
 -- ---- the winner that a trick keeps
 
-got_first : (xs : List ℕ) (x : ℕ) → slice_get xs 0 ≡ Some x → (0 < length xs) × (get_or xs 0 0 ≡ x)
-got_first [] x is = cc
-got_first (y ∷ ys) x is = (omega arith, cc)
+-- what wins so far is the card led or beats it, so whatever is over it beats it
+over_beats : (trump : Option Suit) (led winner card : ℕ) → is_or_beats trump led winner led ≡ true → is_over trump winner card ≡ beats trump led card winner
+over_beats trump led winner card does = grind (arith, nat_tests)
 
-module _ (trump : Option Suit) (trick : List ℕ) (led card winner index : ℕ) (some : slice_get trick 0 ≡ Some led) (kept : IsKeptWinner trump trick winner index) where
-  first_is : get_or trick 0 0 ≡ led
-  first_is = (got_first trick led some).1
+-- the first card
+pub keeps_first : (trump : Option Suit) (trick : List ℕ) (card higher at : ℕ) → length trick ≡ 0 → at ≡ 0 → ((other : ℕ) → other < 52 → has_card higher other ≡ is_over trump card other) → IsKeptWinner trump (trick ++ card ∷ []) card at higher
+keeps_first trump [] card higher at none here over =
+    rw here (record { winning = λ _. winning_led trump card; card_is = λ _. refl; over = λ _. over })
+keeps_first trump (led ∷ others) card higher at none here over = absurd (omega (arith, none))
 
+module _ (trump : Option Suit) (trick : List ℕ) (card winner index higher : ℕ) (some : 0 < length trick) (inside : card < 52) (kept : IsKeptWinner trump trick winner index higher) where
   was : IsWinning trump trick index
-  was = kept.winning ((got_first trick led some).0)
+  was = kept.winning some
 
   winner_is : get_or trick index 0 ≡ winner
-  winner_is = kept.card_is ((got_first trick led some).0)
+  winner_is = kept.card_is some
 
-  told : (answer : Bool) → beats trump led card winner ≡ answer → beats trump (get_or trick 0 0) card (get_or trick index 0) ≡ answer
-  told answer is = ap (λ l. beats trump l card (get_or trick index 0)) first_is ∙ ap (beats trump led card) winner_is ∙ is
+  told : (answer : Bool) → has_card higher card ≡ answer → beats trump (get_or trick 0 0) card (get_or trick index 0) ≡ answer
+  told answer is =
+      sym (over_beats trump (get_or trick 0 0) (get_or trick index 0) card (AllPass-from_list_all (is_or_beats trump (get_or trick 0 0) (get_or trick index 0)) trick was.wins_there 0 0 some))
+      ∙ ap (λ w. is_over trump w card) winner_is ∙ sym (kept.over some card inside) ∙ is
 
-  pub keeps_new : (at : ℕ) → at ≡ length trick → beats trump led card winner ≡ true → IsKeptWinner trump (trick ++ card ∷ []) card at
-  keeps_new at here does =
+  pub keeps_new : (at then : ℕ) → at ≡ length trick → has_card higher card ≡ true → ((other : ℕ) → other < 52 → has_card then other ≡ is_over trump card other) → IsKeptWinner trump (trick ++ card ∷ []) card at then
+  keeps_new at then here does over =
       rw here (record {
         winning = λ _. winning_card trump trick card index was (told true does);
         card_is = λ _. get_or-append_seam trick card [] 0;
+        over = λ _. over;
       })
 
-  pub keeps_old : beats trump led card winner ≡ false → IsKeptWinner trump (trick ++ card ∷ []) winner index
+  pub keeps_old : has_card higher card ≡ false → IsKeptWinner trump (trick ++ card ∷ []) winner index higher
   keeps_old not_beaten = record {
     winning = λ _. winning_kept trump trick card index was (told false not_beaten);
     card_is = λ _. get_or_append_left trick (card ∷ []) 0 index was.within ∙ winner_is;
+    over = λ _. kept.over some;
   }
+
+-- ---- the cards that beat a card
+
+true_and : (a b : Bool) → a ≡ true → (a && b) ≡ b
+true_and true b is = refl
+true_and false b is = cc
+
+-- of the whole deck those of a suit
+pub of_deck : (deck suited : ℕ) (suit : Suit) (card : ℕ) → has_card deck card ≡ true → has_card suited card ≡ (has_card deck card && is_of_suit suit card) → has_card suited card ≡ is_of_suit suit card
+of_deck deck suited suit card all suits = suits ∙ true_and (has_card deck card) (is_of_suit suit card) all
+
+not_le : (card other : ℕ) → not (nat_le other card) ≡ nat_lt card other
+not_le card other = grind (arith, nat_tests)
+
+-- those of a card's suit that are not up to it
+pub above_it : (suited low higher card other : ℕ) → card < 52 → has_card suited other ≡ is_of_suit (card_suit card) other → has_card low other ≡ nat_le other card → has_card higher other ≡ (has_card suited other && not (has_card low other)) → has_card higher other ≡ (same_suit other card && nat_lt card other)
+above_it suited low higher card other inside suits lows highers =
+    highers ∙ ap (λ b. b && not (has_card low other)) (suits ∙ is_of_suit-card_suit card other inside)
+    ∙ ap (λ b. same_suit other card && b) (ap not lows ∙ not_le card other)
+
+or_none : (a : Bool) → a ≡ (a || false)
+or_none true = refl
+or_none false = refl
+
+or_and_none : (a t tc : Bool) → tc ≡ true → a ≡ (a || (t && not tc))
+or_and_none true t tc is = refl
+or_and_none false true true is = refl
+or_and_none false true false is = cc
+or_and_none false false tc is = refl
+
+or_and_not : (a t tc : Bool) → tc ≡ false → (a || t) ≡ (a || (t && not tc))
+or_and_not true t tc is = refl
+or_and_not false true true is = cc
+or_and_not false true false is = refl
+or_and_not false false tc is = refl
+
+-- without trumps, above a trump, and above another card
+pub over_none : (card other : ℕ) → (same_suit other card && nat_lt card other) ≡ is_over None card other
+over_none card other = or_none (same_suit other card && nat_lt card other)
+
+pub over_trump : (suit : Suit) (card other : ℕ) → is_of_suit suit card ≡ true → (same_suit other card && nat_lt card other) ≡ is_over (Some suit) card other
+over_trump suit card other is = or_and_none (same_suit other card && nat_lt card other) (is_of_suit suit other) (is_of_suit suit card) is
+
+pub over_other : (suit : Suit) (card other : ℕ) → is_of_suit suit card ≡ false → ((same_suit other card && nat_lt card other) || is_of_suit suit other) ≡ is_over (Some suit) card other
+over_other suit card other is = or_and_not (same_suit other card && nat_lt card other) (is_of_suit suit other) (is_of_suit suit card) is

@@ -15,10 +15,11 @@ use Rattle.bridge_endings.specs.Agree.{IsDealtOut, IsUpward, Agree, Settles}
 use Rattle.bridge_endings.specs.Left.{all_lengths}
 use Rattle.bridge_endings.specs.Between.{IsBounded}
 
--- a search after some cards were tried: of the same trump suit, and no fewer were tried
+-- a search after some cards were tried: of the same trump suit, with the same limit, and no fewer were tried
 pub record GoesOn (old new : Search) : Type 0 where
   pub trump : new.trump ≡ old.trump
   pub tried : old.tried ≤ new.tried
+  pub limit : new.limit ≡ old.limit
 
 -- the answer is right at each position that agrees with this one in the cards that counted, and with a card those above it count
 pub record IsAnswer (trump : Option Suit) (cards need : ℕ) (answer : Answer) (held : Seat → ℕ → Bool) (leader : Seat) (trick : List ℕ) : Type 0 where

@@ -18,6 +18,10 @@ abbrev pub BeatsEach : Option Suit → (Seat → ℕ → Bool) → Seat → ℕ 
 BeatsEach trump held leader card = (index : ℕ) → 0 < index → index < 4
     → (other : ℕ) → held (clockwise_from leader index) other ≡ true → is_or_beats trump card card other ≡ true
 
+-- of these cards each that the leader has is or beats each card of the three other hands, where its suit is led
+abbrev pub AreUnbeaten : Option Suit → (ℕ → Bool) → (Seat → ℕ → Bool) → Seat → Type 0
+AreUnbeaten trump tops held leader = (card : ℕ) → tops card ≡ true → held leader card ≡ true → BeatsEach trump held leader card
+
 -- the leader or the partner has the card, and wins the trick with it, once the leader leads that card of its suit
 pub record IsSure (trump : Option Suit) (held : Seat → ℕ → Bool) (leader : Seat) (card led : ℕ) : Type 0 where
   pub holder : (held leader card ≡ true) ⊎ (held (clockwise_from leader 2) card ≡ true)
@@ -37,3 +41,7 @@ pub record IsHighest (hand partner left card : ℕ) : Type 0 where
 abbrev pub settled_by_one : Side → ℕ → ℕ
 settled_by_one NorthSouth tricks = 1
 settled_by_one EastWest tricks = tricks
+
+-- none of the cards is among the others
+abbrev pub AreApart : ℕ → ℕ → Type 0
+AreApart others cards = (card : ℕ) → has_card cards card ≡ true → has_card others card ≡ false

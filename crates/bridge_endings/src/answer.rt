@@ -1,5 +1,5 @@
 //! Answers of a search, with the cards that counted: whatever the others are, the answer is the same.
-ghost use Rattle.std.specs.Prelude.{◌≡◌, ℕ, ◌==◌, ◌&&◌, nat_le, IsTrue, true, false};
+ghost use Rattle.std.specs.Prelude.{◌≡◌, ℕ, ◌==◌, ◌&&◌, nat_le, not, IsTrue, true, false};
 ghost use Rattle.bridge_cards.specs.Card.{same_suit};
 ghost use Rattle.bridge_cards.specs.CardSet.{has_card};
 ghost use Rattle.bridge_endings.specs.Agree.{AreAlike};
@@ -25,6 +25,29 @@ impl Answer {
         ensures { result ≡ record self { best = card } }
     {
         Answer { best: card, ..self }
+    }
+}
+
+/// The answer where none of the cards tried gave the one that is sought.
+pub fn all_tried(sought: bool, counts: CardSet, best: Card) -> Answer
+    ensures { result ≡ record { yes = not sought; counts = counts; best = best } }
+{
+    Answer {
+        yes: !sought,
+        counts,
+        best,
+    }
+}
+
+/// The answer where no card is played: no card counts.
+pub fn without_cards(need: u8) -> Answer
+    ensures yes { result.yes ≡ (need == 0) }
+    ensures counts { result.counts ≡ 0 }
+{
+    Answer {
+        yes: need == 0,
+        counts: CardSet::new(),
+        best: Card::default(),
     }
 }
 

@@ -81,7 +81,7 @@ fn below(card: Card) -> CardSet
 }
 
 /// The cards of the deck up to that one.
-fn up_to(card: Card) -> CardSet
+pub fn up_to(card: Card) -> CardSet
     ensures { (other : ℕ) → has_card result other ≡ nat_le other card }
 {
     let bits = (1_u64 << (card.number() + 1)) - 1;

@@ -1,5 +1,5 @@
 //! What the cards of a play cost: the tricks of each moment are asked for in turn over one table, from those of the moment before.
-ghost use Rattle.std.specs.Prelude.{◌≡◌, ℕ, ◌+◌, ◌≤◌, ◌↔◌, nat_le, true, false, IfSome, IsNone};
+ghost use Rattle.std.specs.Prelude.{◌≡◌, ℕ, ◌+◌, ◌≤◌, ◌↔◌, nat_le, true, false, None, IfSome, IsNone};
 ghost use Rattle.bridge_cards.specs.Deal.{IsDeal};
 ghost use Rattle.bridge_cards.specs.Seat.{side_of};
 ghost use Rattle.bridge_endings.specs.Between.{IsBounded};
@@ -18,18 +18,21 @@ use bridge_cards::{Card, CardSet, DECK, Seat, Side};
 fn reaches_in_all(search: &mut Search, table: &mut [Entry], moment: &Moment, need: u8) -> bool
     requires table { IsTable table.old }
     requires moment { IsMoment search.old.trump moment.now }
+    requires endless { search.old.limit ≡ None }
     ensures reached { result ≡ nat_le need (won_in_all search.old.trump (seen moment.now)) }
     ensures later { GoesOn search.old search.new }
     ensures table { IsTable table.new }
 {
-    let answer = search.reaches_at(
-        table,
-        &moment.hands,
-        moment.left,
-        &moment.trick,
-        moment.tricks,
-        need.saturating_sub(moment.won),
-    );
+    let answer = search
+        .reaches_at(
+            table,
+            &moment.hands,
+            moment.left,
+            &moment.trick,
+            moment.tricks,
+            need.saturating_sub(moment.won),
+        )
+        .unwrap();
     answer.yes
 }
 
@@ -44,6 +47,7 @@ fn won_in_all(
 ) -> u8
     requires table { IsTable table.old }
     requires moment { IsMoment search.old.trump moment.now }
+    requires endless { search.old.limit ≡ None }
     requires bounded { IsBounded (won_in_all search.old.trump (seen moment.now)) known }
     ensures won { result ≡ won_in_all search.old.trump (seen moment.now) }
     ensures later { GoesOn search.old search.new }
@@ -91,6 +95,7 @@ pub fn won_from(
     guess: u8,
 ) -> Option<u8>
     requires deal { IsTable table.old × IsDeal hands.now }
+    requires endless { search.old.limit ≡ None }
     ensures won { IfSome result (λ won. won ≡ won_in_all search.old.trump (after_cards search.old.trump (first_moment hands.now declarer) cards.now)) }
     ensures few { IfSome result (λ won. won ≤ 13) }
     ensures none { IsNone result ↔ (are_legal search.old.trump (first_moment hands.now declarer) cards.now ≡ false) }
@@ -114,6 +119,7 @@ struct Played {
 /// What follows a card, before which North and South win so many tricks in all.
 fn play(search: &mut Search, table: &mut [Entry], moment: &Moment, card: Card, before: u8) -> Played
     requires moment { IsTable table.old × IsMoment search.old.trump moment.now }
+    requires endless { search.old.limit ≡ None }
     requires legal { may_play (seen moment.now) card ≡ true }
     requires before { before ≡ won_in_all search.old.trump (seen moment.now) }
     ensures moment { IsMoment search.old.trump result.moment × (seen result.moment ≡ after_card search.old.trump (seen moment.now) card) }
@@ -148,6 +154,7 @@ pub fn costs_in_all(
     guess: u8,
 ) -> Option<ArrayVec<CardCost, DECK>>
     requires deal { IsTable table.old × IsDeal hands.now }
+    requires endless { search.old.limit ≡ None }
     ensures costs { IfSome result (λ costs. costs.items ≡ costs_of search.old.trump (first_moment hands.now declarer) cards.now) }
     ensures explained { IfSome result (λ costs. IsExplained search.old.trump (first_moment hands.now declarer)
         (after_cards search.old.trump (first_moment hands.now declarer) cards.now) costs.items) }

@@ -1,7 +1,8 @@
 //! Whole deals, solved double dummy: how many tricks a declarer takes where each of the four sees all the cards, after any cards
 //! that were played, and what each of these cost.
-ghost use Rattle.std.specs.Prelude.{◌≡◌, ◌+◌, ◌≤◌, ◌↔◌, false, IfOk, IfSome, IsNone};
-ghost use Rattle.bridge_cards.specs.Seat.{side_of};
+ghost use Rattle.std.specs.Prelude.{◌≡◌, ◌+◌, ◌*◌, ◌≤◌, ◌↔◌, [], false, IfOk, IfSome, IsNone, IsSome};
+ghost use Rattle.bridge_cards.specs.Seat.{clockwise_from, side_of};
+ghost use Rattle.bridge_endings.specs.Worth.{dealt, worth_with};
 ghost use Rattle.bridge_endings.specs.DealTricks.{tricks_of, declarer_tricks};
 ghost use Rattle.bridge_endings.specs.PlayedCards.{first_moment, are_legal, tricks_after, costs_of, ExplainsTricks};
 
@@ -53,6 +54,7 @@ impl DealSolver {
             search: Search {
                 trump: None,
                 tried: 0,
+                limit: None,
                 last: 0,
                 heads,
             },
@@ -67,7 +69,36 @@ impl DealSolver {
         ensures few { result ≤ 13 }
         ensures deal { self.new ≡ self.old }
     {
+        let won = self.won_within(trump, declarer, None).unwrap();
+        tricks_of(declarer.side(), won)
+    }
+
+    /// The same if it is found by trying no more than so many cards, and otherwise `None`. What was found by then is kept, so that
+    /// where the same is asked again it takes fewer.
+    pub fn tricks_within(
+        &mut self,
+        trump: Option<Suit>,
+        declarer: Seat,
+        cards_tried: u64,
+    ) -> Option<u8>
+        ensures tricks { IfSome result (λ tricks. tricks ≡ declarer_tricks trump self.old declarer) }
+        ensures few { IfSome result (λ tricks. tricks ≤ 13) }
+        ensures deal { self.new ≡ self.old }
+    {
+        let limit = self.search.tried.saturating_add(cards_tried);
+        let won = self.won_within(trump, declarer, Some(limit))?;
+        Some(tricks_of(declarer.side(), won))
+    }
+
+    /// The tricks that North and South win then; `None` where so many cards, with those before, do not suffice.
+    fn won_within(&mut self, trump: Option<Suit>, declarer: Seat, limit: Option<u64>) -> Option<u8>
+        ensures won { IfSome result (λ won. won ≡ worth_with trump (4 * 13) (dealt self.old) (clockwise_from declarer 1) []) }
+        ensures few { IfSome result (λ won. won ≤ 13) }
+        ensures ended { IsNone result → IsSome limit }
+        ensures deal { self.new ≡ self.old }
+    {
         self.search.trump = trump;
+        self.search.limit = limit;
         let hands = self.hands;
         let won = tricks_won(
             &mut self.search,
@@ -76,13 +107,11 @@ impl DealSolver {
             declarer.left(),
             13,
             self.won,
-        );
+        )?;
         self.won = won;
-        match declarer.side() {
-            Side::NorthSouth => won,
-            Side::EastWest => 13 - won,
-        }
+        Some(won)
     }
+
     /// The same where the play begins with these cards: the tricks that the declarer then takes in all, dummy's among them, and
     /// after all 52 those that were taken. `None` where one of the cards may not be played in its turn (Law 44).
     pub fn tricks_after(
@@ -97,6 +126,7 @@ impl DealSolver {
         ensures deal { self.new ≡ self.old }
     {
         self.search.trump = trump;
+        self.search.limit = None;
         let hands = self.hands;
         let won = won_from(
             &mut self.search,
@@ -125,6 +155,7 @@ impl DealSolver {
         ensures deal { self.new ≡ self.old }
     {
         self.search.trump = trump;
+        self.search.limit = None;
         let hands = self.hands;
         let costs = costs_in_all(
             &mut self.search,

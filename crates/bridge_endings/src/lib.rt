@@ -31,6 +31,7 @@ mod sign;
 pub mod solver;
 mod sure_card;
 mod table;
+mod top_cards;
 mod top_trumps;
 mod trick;
 

@@ -118,7 +118,7 @@ fn won_with(won: u8, winner: Seat) -> u8
 }
 
 /// The 52 cards.
-fn whole_deck() -> CardSet
+pub fn whole_deck() -> CardSet
     ensures all { (card : ℕ) → card < 52 → has_card result card ≡ true }
     ensures count { card_count result ≡ 52 }
 {

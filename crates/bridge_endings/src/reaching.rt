@@ -1,12 +1,12 @@
 //! Whether North and South win at least so many of the tricks left.
-ghost use Rattle.std.specs.Prelude.{◌≡◌, ℕ, ◌-◌, ◌*◌, ◌<◌, ◌≤◌, ◌==◌, not, length, MatchBool, IsTrue, IfSome, ◌++◌, ◌∷◌, []};
+ghost use Rattle.std.specs.Prelude.{◌≡◌, ℕ, ◌-◌, ◌*◌, ◌<◌, ◌≤◌, length, MatchBool, IsTrue, IfSome, IsNone, IsSome, ◌++◌, ◌∷◌, []};
 ghost use Rattle.bridge_cards.specs.Seat.{side_of};
 ghost use Rattle.bridge_endings.specs.Worth.{after_playing, dealt, trick_for};
 ghost use Rattle.bridge_endings.specs.Left.{left_to, is_sought, IsForegone};
 ghost use Rattle.bridge_endings.specs.Agree.{IsDealtOut};
 ghost use Rattle.bridge_endings.specs.SearchValue.{GoesOn, IsAnswer, IsTable};
 
-use crate::answer::{Answer, still_to_try, upwards};
+use crate::answer::{Answer, all_tried, still_to_try, upwards, without_cards};
 use crate::asked::Asked;
 use crate::closed::{all_cards, cards_left, closed_hands, gaps, opened};
 use crate::entry::Entry;
@@ -28,11 +28,12 @@ impl Search {
         trick: &Trick,
         tricks: u8,
         need: u8,
-    ) -> Answer
+    ) -> Option<Answer>
         requires part { (length trick.now.cards < 4) × (length trick.now.cards ≤ 4 * tricks) }
         requires given { (trick.now.trump ≡ self.old.trump) × IsTable table.old × IsDealtOut (left_to hands.now left) }
-        ensures answer { IsAnswer self.old.trump (4 * tricks - length trick.now.cards) need result
-            (left_to hands.now left) trick.now.leader trick.now.cards }
+        ensures answer { IfSome result (λ answer. IsAnswer self.old.trump (4 * tricks - length trick.now.cards) need answer
+            (left_to hands.now left) trick.now.leader trick.now.cards) }
+        ensures ended { IsNone result → IsSome self.old.limit }
         ensures later { GoesOn self.old self.new }
         ensures table { IsTable table.new }
     {
@@ -53,22 +54,23 @@ impl Search {
         leader: Seat,
         tricks: u8,
         need: u8,
-    ) -> Answer
+    ) -> Option<Answer>
         requires table { IsTable table.old }
         requires dealt { IsDealtOut (left_to hands.now left) }
-        ensures answer { IsAnswer self.old.trump (4 * tricks) need result (left_to hands.now left) leader [] }
+        ensures answer { IfSome result (λ answer. IsAnswer self.old.trump (4 * tricks) need answer (left_to hands.now left) leader []) }
+        ensures ended { IsNone result → IsSome self.old.limit }
         ensures later { GoesOn self.old self.new }
         ensures table { IsTable table.new }
     {
         let trick = Trick::new(self.trump, leader);
         if is_settled(&trick, tricks, need) {
-            return without_cards(need);
+            return Some(without_cards(need));
         }
         if tricks < 3 {
             return self.reaches(table, hands, left, &trick, tricks, need, None);
         }
         if let Some(answer) = self.seen_at_once(hands, left, leader, tricks, need) {
-            return answer;
+            return Some(answer);
         }
         let cards = cards_left(hands, left);
         let gone = gaps(all_cards(hands).difference(left), left);
@@ -89,6 +91,9 @@ impl Search {
         ensures { IfSome result (λ answer. IsAnswer self.now.trump (4 * tricks) need answer (left_to hands.now left) leader []) }
     {
         if let Some(answer) = self.settled_by_trumps(hands, left, tricks, need) {
+            return Some(answer);
+        }
+        if let Some(answer) = self.settled_by_top_cards(hands, left, leader, tricks, need) {
             return Some(answer);
         }
         if need != settled_by_one(leader, tricks) {
@@ -112,12 +117,13 @@ impl Search {
         trick: &Trick,
         tricks: u8,
         need: u8,
-    ) -> Answer
+    ) -> Option<Answer>
         requires table { IsTable table.old }
         requires dealt { IsDealtOut (dealt hands.now) }
         requires first { (trick.now.cards ≡ []) × (trick.now.trump ≡ self.old.trump) }
         requires some { 0 < need }
-        ensures answer { IsAnswer self.old.trump (4 * tricks) need result (dealt hands.now) trick.now.leader [] }
+        ensures answer { IfSome result (λ answer. IsAnswer self.old.trump (4 * tricks) need answer (dealt hands.now) trick.now.leader []) }
+        ensures ended { IsNone result → IsSome self.old.limit }
         ensures later { GoesOn self.old self.new }
         ensures table { IsTable table.new }
     {
@@ -127,11 +133,11 @@ impl Search {
             return self.reaches_kept(table, hands, all, trick, tricks, need);
         };
         let hands = closed_hands(hands, gap);
-        let answer = self.reaches_closed(table, &hands, gaps.without(gap), trick, tricks, need);
-        Answer {
+        let answer = self.reaches_closed(table, &hands, gaps.without(gap), trick, tricks, need)?;
+        Some(Answer {
             counts: opened(answer.counts, gap),
             ..answer
-        }
+        })
     }
 
     /// The same of hands of which the table may know it.
@@ -144,13 +150,14 @@ impl Search {
         trick: &Trick,
         tricks: u8,
         need: u8,
-    ) -> Answer
+    ) -> Option<Answer>
         requires table { IsTable table.old }
         requires dealt { IsDealtOut (left_to hands.now left) }
         requires all { left_to hands.now left ≡ dealt hands.now }
         requires first { (trick.now.cards ≡ []) × (trick.now.trump ≡ self.old.trump) }
         requires some { 0 < need }
-        ensures answer { IsAnswer self.old.trump (4 * tricks) need result (dealt hands.now) trick.now.leader [] }
+        ensures answer { IfSome result (λ answer. IsAnswer self.old.trump (4 * tricks) need answer (dealt hands.now) trick.now.leader []) }
+        ensures ended { IsNone result → IsSome self.old.limit }
         ensures later { GoesOn self.old self.new }
         ensures table { IsTable table.new }
     {
@@ -163,13 +170,13 @@ impl Search {
             need,
         };
         let known = look_up(table, &self.heads, &asked);
-        if let Some(answer) = known.answer {
-            return answer;
+        if known.answer.is_some() {
+            return known.answer;
         }
-        let answer = self.reaches(table, hands, left, trick, tricks, need, known.best);
+        let answer = self.reaches(table, hands, left, trick, tricks, need, known.best)?;
         let found = Found::by(&asked, &answer);
         note(table, &mut self.heads, &found, known.place, &mut self.last);
-        answer
+        Some(answer)
     }
 
     /// The same at any card of a trick, with which so many tricks are left.
@@ -183,34 +190,35 @@ impl Search {
         tricks: u8,
         need: u8,
         best: Option<Card>,
-    ) -> Answer
+    ) -> Option<Answer>
         requires part { (length trick.now.cards < 4) × (length trick.now.cards ≤ 4 * tricks) }
         requires given { (trick.now.trump ≡ self.old.trump) × IsTable table.old × IsDealtOut (left_to hands.now left) }
-        ensures answer { IsAnswer self.old.trump (4 * tricks - length trick.now.cards) need result
-            (left_to hands.now left) trick.now.leader trick.now.cards }
+        ensures answer { IfSome result (λ answer. IsAnswer self.old.trump (4 * tricks - length trick.now.cards) need answer
+            (left_to hands.now left) trick.now.leader trick.now.cards) }
+        ensures ended { IsNone result → IsSome self.old.limit }
         ensures later { GoesOn self.old self.new }
         ensures table { IsTable table.new }
     {
         if is_settled(trick, tricks, need) {
-            return without_cards(need);
+            return Some(without_cards(need));
         }
         let legal = legal_cards(hands, left, trick);
         if legal.is_empty() {
-            return without_cards(need);
+            return Some(without_cards(need));
         }
         let sought = is_sought(trick.turn());
         let first = self.first_card(hands, left, legal, trick, best);
         let (mut rest, mut counts) = (legal, CardSet::new());
         while let Some(card) = self.next_card(hands, left, rest, trick, first) {
-            let answer = self.reaches_with(table, hands, left, trick, card, tricks, need);
+            let answer = self.reaches_with(table, hands, left, trick, card, tricks, need)?;
             if answer.yes == sought {
-                return answer.by(card);
+                return Some(answer.by(card));
             }
             rest = still_to_try(rest, card, answer.counts);
             counts = counts.union(answer.counts);
         }
         let first = self.next_card(hands, left, legal, trick, first);
-        all_tried(sought, counts, first.unwrap_or_default())
+        Some(all_tried(sought, counts, first.unwrap_or_default()))
     }
 
     /// Whether they do once the card is played.
@@ -224,16 +232,17 @@ impl Search {
         card: Card,
         tricks: u8,
         need: u8,
-    ) -> Answer
+    ) -> Option<Answer>
         requires part { (length trick.now.cards < 4) × (0 < tricks) }
         requires trump { trick.now.trump ≡ self.old.trump }
         requires given { IsTable table.old × IsDealtOut (left_to hands.now left) }
-        ensures answer { IsAnswer self.old.trump (4 * tricks - length trick.now.cards - 1) need result
-            (after_playing card (left_to hands.now left)) trick.now.leader (trick.now.cards ++ card ∷ []) }
+        ensures answer { IfSome result (λ answer. IsAnswer self.old.trump (4 * tricks - length trick.now.cards - 1) need answer
+            (after_playing card (left_to hands.now left)) trick.now.leader (trick.now.cards ++ card ∷ [])) }
+        ensures ended { IsNone result → IsSome self.old.limit }
         ensures later { GoesOn self.old self.new }
         ensures table { IsTable table.new }
     {
-        self.count_card();
+        self.count_card()?;
         let left = left.without(card);
         let trick = trick.with(card);
         if trick.len() < 4 {
@@ -241,35 +250,12 @@ impl Search {
         }
         let winner = trick.winner();
         let need = need_after(winner, need);
-        let answer = self.reaches_from(table, hands, left, winner, tricks - 1, need);
-        Answer {
+        let answer = self.reaches_from(table, hands, left, winner, tricks - 1, need)?;
+        Some(Answer {
             yes: answer.yes,
             counts: answer.counts.union(trick.rank_that_counts()),
             best: card,
-        }
-    }
-}
-
-/// The answer where none of the cards tried gave the one that is sought.
-fn all_tried(sought: bool, counts: CardSet, best: Card) -> Answer
-    ensures { result ≡ record { yes = not sought; counts = counts; best = best } }
-{
-    Answer {
-        yes: !sought,
-        counts,
-        best,
-    }
-}
-
-/// The answer where no card is played: no card counts.
-fn without_cards(need: u8) -> Answer
-    ensures yes { result.yes ≡ (need == 0) }
-    ensures counts { result.counts ≡ 0 }
-{
-    Answer {
-        yes: need == 0,
-        counts: CardSet::new(),
-        best: Card::default(),
+        })
     }
 }
 

@@ -1,5 +1,5 @@
 //! A search: its trump suit, how many cards it has tried, and the cards that a hand may play.
-ghost use Rattle.std.specs.Prelude.{◌≡◌, ℕ, ◌+◌, ◌-◌, ◌^◌, min, length};
+ghost use Rattle.std.specs.Prelude.{◌≡◌, ℕ, ◌+◌, ◌-◌, ◌^◌, ◌≤◌, min, length, IfSome, IsNone, IsSome};
 ghost use Rattle.bridge_cards.specs.Card.{IsCard, card_suit};
 ghost use Rattle.bridge_cards.specs.CardSet.{IsCardSet, has_card};
 ghost use Rattle.bridge_cards.specs.Seat.{clockwise_from, side_of};
@@ -18,6 +18,8 @@ pub struct Search {
     pub trump: Option<Suit>,
     /// The cards tried.
     pub tried: u64,
+    /// Once so many are tried, the search ends without an answer; `None` where it goes on to the end.
+    pub limit: Option<u64>,
     /// Where in its table it put what it found last.
     pub last: u32,
     /// Where the lists of its table begin.
@@ -25,12 +27,20 @@ pub struct Search {
 }
 
 impl Search {
-    /// Counts one card more.
-    pub fn count_card(&mut self)
-        ensures one { self.new.tried ≡ min (self.old.tried + 1) (2 ^ 64 - 1) }
+    /// Counts one card more; `None` where no more may be tried.
+    pub fn count_card(&mut self) -> Option<()>
+        ensures one { IfSome result (λ _. self.new.tried ≡ min (self.old.tried + 1) (2 ^ 64 - 1)) }
+        ensures within { IfSome self.old.limit (λ limit. IfSome result (λ _. self.new.tried ≤ limit)) }
+        ensures ended { IsNone result → IsSome self.old.limit }
         ensures later { GoesOn self.old self.new }
     {
-        self.tried = self.tried.saturating_add(1);
+        match self.limit {
+            Some(limit) if self.tried >= limit => None,
+            _ => {
+                self.tried = self.tried.saturating_add(1);
+                Some(())
+            }
+        }
     }
 }
 

@@ -1,5 +1,5 @@
 //! The worth of an ending.
-ghost use Rattle.std.specs.Prelude.{◌≡◌, ◌*◌, ◌≤◌, []};
+ghost use Rattle.std.specs.Prelude.{◌≡◌, ◌*◌, ◌≤◌, [], None, IfSome, IsNone, IsSome};
 ghost use Rattle.bridge_endings.specs.Worth.{dealt, worth_of, worth_with};
 ghost use Rattle.bridge_endings.specs.Agree.{IsDealtOut};
 ghost use Rattle.bridge_endings.specs.SearchValue.{IsTable};
@@ -30,6 +30,7 @@ pub fn solve(ending: &Ending, cache: Option<&mut Cache>) -> u8
             &mut Search {
                 trump: ending.trump(),
                 tried: 0,
+                limit: None,
                 last: 0,
                 heads: Heads::few(),
             },
@@ -51,6 +52,7 @@ fn solve_with(ending: &Ending, cache: &mut Cache) -> u8
     let mut search = Search {
         trump: ending.trump(),
         tried,
+        limit: None,
         last: 0,
         heads: Heads::few(),
     };
@@ -62,6 +64,7 @@ fn solve_with(ending: &Ending, cache: &mut Cache) -> u8
 /// The same by a search with a table of its own.
 fn worth_by(ending: &Ending, search: &mut Search) -> u8
     requires trump { search.old.trump ≡ ending.now.trump }
+    requires endless { search.old.limit ≡ None }
     ensures worth { result ≡ worth_of ending.now }
     ensures few { result ≤ 6 }
     ensures tried { search.old.tried ≤ search.new.tried }
@@ -77,9 +80,11 @@ fn worth_by(ending: &Ending, search: &mut Search) -> u8
         tricks,
         tricks / 2 + 1,
     )
+    .unwrap()
 }
 
-/// The tricks of North and South by a search of so many, which is asked for a guess first, and then for one more or one less.
+/// The tricks of North and South by a search of so many, which is asked for a guess first, and then for one more or one less;
+/// `None` where as many cards were tried as may be.
 pub fn tricks_won(
     search: &mut Search,
     table: &mut [Entry],
@@ -87,11 +92,12 @@ pub fn tricks_won(
     leader: Seat,
     tricks: u8,
     guess: u8,
-) -> u8
+) -> Option<u8>
     requires table { IsTable table.old }
     requires dealt { IsDealtOut (dealt hands.now) }
-    ensures worth { result ≡ worth_with search.old.trump (4 * tricks) (dealt hands.now) leader [] }
-    ensures few { result ≤ tricks }
+    ensures worth { IfSome result (λ worth. worth ≡ worth_with search.old.trump (4 * tricks) (dealt hands.now) leader []) }
+    ensures few { IfSome result (λ worth. worth ≤ tricks) }
+    ensures ended { IsNone result → IsSome search.old.limit }
     ensures tried { search.old.tried ≤ search.new.tried }
     ensures table { IsTable table.new }
 {
@@ -102,8 +108,8 @@ pub fn tricks_won(
     };
     while bounds.least < bounds.most {
         let need = guess.max(bounds.least + 1).min(bounds.most);
-        let answer = search.reaches_from(table, hands, left, leader, tricks, need);
+        let answer = search.reaches_from(table, hands, left, leader, tricks, need)?;
         bounds = narrowed(bounds, need, answer.yes);
     }
-    bounds.least
+    Some(bounds.least)
 }

@@ -12,7 +12,7 @@ use bridge_cards::{Card, CardSet, Seat, Side, Suit};
 
 impl Search {
     /// The trump suit, if one of the cards is a trump.
-    fn trump_among(&self, cards: CardSet) -> Option<Suit>
+    pub fn trump_among(&self, cards: CardSet) -> Option<Suit>
         ensures some { IfSome result (λ suit. self.now.trump ≡ Some suit) }
         ensures none { IfNone result ((card : ℕ) → has_card cards card ≡ true → is_trump self.now.trump card ≡ false) }
     {

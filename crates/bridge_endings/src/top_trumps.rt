@@ -65,7 +65,7 @@ impl Search {
 }
 
 /// Whether each seat has so many cards left.
-fn have_each(hands: &[CardSet; 4], left: CardSet, tricks: u8) -> bool
+pub fn have_each(hands: &[CardSet; 4], left: CardSet, tricks: u8) -> bool
     ensures { IsTrue result → FourHave (left_to hands.now left) tricks }
 {
     let north = cards_of(hands, left, Seat::North);
@@ -84,7 +84,7 @@ fn cards_of(hands: &[CardSet; 4], left: CardSet, seat: Seat) -> usize
 }
 
 /// So many tricks of the seat's side settle whether North and South win `need` of those left.
-fn settling(seat: Seat, tricks: u8, need: u8) -> usize
+pub fn settling(seat: Seat, tricks: u8, need: u8) -> usize
     ensures { IsSettledBy (side_of seat) result tricks need }
 {
     match seat.side() {

@@ -1,14 +1,18 @@
 //! A trick that is being played: whose turn it is, and who wins it.
-ghost use Rattle.std.specs.Prelude.{◌≡◌, ℕ, ◌+◌, ◌<◌, ◌≤◌, true, [], ◌∷◌, ◌++◌, length, take, slice_get};
+ghost use Rattle.std.specs.Prelude.{◌≡◌, ℕ, ◌+◌, ◌<◌, ◌≤◌, ◌&&◌, nat_lt, true, [], ◌∷◌, ◌++◌, length, take, slice_get};
 ghost use Rattle.bridge_cards.specs.Seat.{clockwise_from};
 ghost use Rattle.bridge_cards.specs.Trick.{next_leader};
-ghost use Rattle.bridge_cards.specs.CardSet.{has_card};
-ghost use Rattle.bridge_endings.specs.TrickValue.{IsKeptWinner};
+ghost use Rattle.bridge_cards.specs.Card.{same_suit};
+ghost use Rattle.bridge_cards.specs.CardSet.{has_card, is_of_suit};
+ghost use Rattle.bridge_endings.specs.TrickValue.{IsKeptWinner, is_over};
 ghost use Rattle.bridge_endings.specs.Agree.{IsRanked, IsUpward};
 
 use crate::answer::upwards;
-use bridge_cards::trick::{beats, same_suit};
-use bridge_cards::{Card, CardSet, SUIT_CARDS, Seat, Suit};
+use crate::closed::up_to;
+use crate::moment::whole_deck;
+use crate::search::suit_of;
+use bridge_cards::trick::same_suit;
+use bridge_cards::{Card, CardSet, Seat, Suit};
 use std::marker::Model;
 
 /// The cards of a trick so far, the seat that led, and the trump suit if there is one.
@@ -20,15 +24,14 @@ pub struct Trick {
     played: u8,
     /// The winner so far, if a card is played.
     winning: Winning,
-    /// The cards that beat it; none where no card is played. Only the order of play rests on it.
-    higher: CardSet,
 }
 
-/// A card of a trick, and its index from the one led.
+/// A card of a trick, its index from the one led, and the cards that beat it.
 #[derive(Clone, Copy)]
 struct Winning {
     card: Card,
     index: u8,
+    higher: CardSet,
 }
 
 impl Model for Trick {
@@ -39,7 +42,7 @@ impl Model for Trick {
 
     ghost view = { λ t. record { trump = t.trump; leader = t.leader; cards = take t.played t.cards } };
 
-    ghost invariant = { λ t. (t.played ≤ 4) × (length t.cards ≡ 4) × IsKeptWinner t.trump (take t.played t.cards) t.winning.card t.winning.index };
+    ghost invariant = { λ t. (t.played ≤ 4) × (length t.cards ≡ 4) × IsKeptWinner t.trump (take t.played t.cards) t.winning.card t.winning.index t.winning.higher };
 }
 
 impl Trick {
@@ -57,8 +60,8 @@ impl Trick {
             winning: Winning {
                 card: Card::default(),
                 index: 0,
+                higher: CardSet::new(),
             },
-            higher: CardSet::new(),
         }
     }
 
@@ -102,18 +105,12 @@ impl Trick {
         ensures leader { result.leader ≡ self.now.leader }
         ensures cards { result.cards ≡ self.now.cards ++ card ∷ [] }
     {
-        let winning = self.winning_with(card);
         Trick {
             trump: self.trump,
             leader: self.leader,
             cards: self.cards_with(card),
             played: self.played + 1,
-            winning,
-            higher: if winning.index == self.played {
-                self.beating(card)
-            } else {
-                self.higher
-            },
+            winning: self.winning_with(card),
         }
     }
 
@@ -135,18 +132,28 @@ impl Trick {
     /// The winner so far once the card is played.
     fn winning_with(&self, card: Card) -> Winning
         requires { length self.now.cards < 4 }
-        ensures { IsKeptWinner self.now.trump (self.now.cards ++ card ∷ []) result.card result.index }
+        ensures { IsKeptWinner self.now.trump (self.now.cards ++ card ∷ []) result.card result.index result.higher }
     {
-        let Some(led) = self.led() else {
-            return Winning { card, index: 0 };
-        };
-        if beats(self.trump, led, card, self.winning.card) {
-            Winning {
-                card,
-                index: self.played,
-            }
+        if self.played == 0 {
+            return self.winning_by(card);
+        }
+        if self.winning.higher.has(card) {
+            self.winning_by(card)
         } else {
             self.winning
+        }
+    }
+
+    /// The card, played now, as the winner.
+    fn winning_by(&self, card: Card) -> Winning
+        ensures card { result.card ≡ card }
+        ensures index { result.index ≡ length self.now.cards }
+        ensures higher { (other : ℕ) → other < 52 → has_card result.higher other ≡ is_over self.now.trump card other }
+    {
+        Winning {
+            card,
+            index: self.played,
+            higher: self.beating(card),
         }
     }
 
@@ -157,17 +164,14 @@ impl Trick {
 
     /// Those of the cards that would win so far, where one is played already.
     pub fn winners(&self, cards: CardSet) -> CardSet {
-        cards.intersection(self.higher)
+        cards.intersection(self.winning.higher)
     }
 
     /// The cards that beat that one once it wins: the higher ones of its suit, and trumps where it is none.
-    pub fn beating(&self, card: Card) -> CardSet {
-        let suit = card.suit();
-        let higher = above(suit_cards(suit), card);
-        match self.trump {
-            Some(trump) if trump != suit => higher.union(suit_cards(trump)),
-            _ => higher,
-        }
+    pub fn beating(&self, card: Card) -> CardSet
+        ensures { (other : ℕ) → other < 52 → has_card result other ≡ is_over self.now.trump card other }
+    {
+        cards_over(self.trump, card)
     }
 
     /// The cards that count in the trick: where another card of the winner's suit was played, the winner's and those above it.
@@ -194,12 +198,34 @@ impl Trick {
     }
 }
 
-/// All cards of the suit.
-fn suit_cards(suit: Suit) -> CardSet {
-    match CardSet::from_bits(0x1fff << (SUIT_CARDS * suit.number())) {
-        Some(cards) => cards,
-        None => CardSet::new(),
+/// The cards that beat that one once it wins, where that suit is trumps.
+fn cards_over(trump: Option<Suit>, card: Card) -> CardSet
+    ensures { (other : ℕ) → other < 52 → has_card result other ≡ is_over trump card other }
+{
+    let higher = above_in_suit(card);
+    let Some(trump) = trump else {
+        return higher;
+    };
+    let trumps = suit_cards(trump);
+    if trumps.has(card) {
+        higher
+    } else {
+        higher.union(trumps)
     }
+}
+
+/// All cards of the suit.
+fn suit_cards(suit: Suit) -> CardSet
+    ensures { (card : ℕ) → card < 52 → has_card result card ≡ is_of_suit suit card }
+{
+    whole_deck().of_suit(suit)
+}
+
+/// The cards of the card's suit above it.
+fn above_in_suit(card: Card) -> CardSet
+    ensures { (other : ℕ) → other < 52 → has_card result other ≡ (same_suit other card && nat_lt card other) }
+{
+    suit_cards(suit_of(card)).difference(up_to(card))
 }
 
 /// Those of the cards that are above that one in the order of the deck.

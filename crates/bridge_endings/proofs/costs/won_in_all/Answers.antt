@@ -6,7 +6,7 @@ use Rattle.bridge_endings.proofs.costs.won_in_all.Goals as goal
 pub loop-bounds-init : goal.loop-bounds-init
 loop-bounds-init c = record {
   bounded = c.requires.bounded;
-  later = record { trump = refl; tried = omega arith };
+  later = record { trump = refl; tried = omega arith; limit = refl };
   table = c.requires.table;
 }
 

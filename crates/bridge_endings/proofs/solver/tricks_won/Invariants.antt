@@ -9,6 +9,7 @@ invariant-loop-bounds l = record {
   bounded : IsBounded (worth_with l.fn.search.trump (4 * l.fn.tricks) (dealt l.fn.hands) l.fn.leader []) l.bounds;
   few : l.bounds.most ≤ l.fn.tricks;
   trump : l.search.trump ≡ l.fn.search.trump;
+  limit : l.search.limit ≡ l.fn.search.limit;
   tried : l.fn.search.tried ≤ l.search.tried;
   table : IsTable l.table;
 }

@@ -25,3 +25,19 @@ fn numbers_are_those_of_the_rows(rt: HostRuntime) -> Result<(), Fail> {
     }
     Ok(())
 }
+
+// A call that may try few cards ends without a number, and what it found serves the next.
+#[test]
+fn some_cards_at_a_time_come_to_the_same(rt: HostRuntime) -> Result<(), Fail> {
+    let mut solver = DealSolver::new(rt.alloc(), &deal_of(HANDS)?)?;
+    let first = solver.tricks_within(TRUMPS[0], Seat::North, 5_000);
+    expect_eq(&rt, first, None, "of the first cards");
+    let mut tricks = None;
+    for _ in 0..1_000 {
+        if tricks.is_none() {
+            tricks = solver.tricks_within(TRUMPS[0], Seat::North, 5_000);
+        }
+    }
+    expect_eq(&rt, tricks, Some(NUMBERS[0][0]), "of all of them");
+    Ok(())
+}

@@ -1,5 +1,6 @@
-use Rattle.bridge_endings.proofs.Owners.{deal_dealt_out}
+use Rattle.std.proofs.Common.{refl}
+use Rattle.bridge_endings.proofs.GoingOn.{told_in_the_end}
 use Rattle.bridge_endings.proofs.deal_solver.DealSolver.tricks.Goals as goal
 
-pub tricks_won-won-requires-clause-dealt : goal.tricks_won-won-requires-clause-dealt
-tricks_won-won-requires-clause-dealt c = deal_dealt_out c.self.inside.hands c.self.invariant.deal
+pub unwrap-won-requires : goal.unwrap-won-requires
+unwrap-won-requires c = told_in_the_end _ c.won_within.result refl c.won_within.ensures.ended

@@ -6,6 +6,7 @@ use Rattle.bridge_endings.specs.declared.answer.Answer.{Answer}
 use Rattle.bridge_endings.specs.SearchValue.{IsAnswer}
 use Rattle.bridge_endings.specs.Left.{left_to}
 use Rattle.bridge_endings.proofs.Seats.{first_place}
+use Rattle.bridge_endings.proofs.GoingOn.{if_told}
 use Rattle.bridge_endings.proofs.search.Search.reaches_at.Goals as goal
 
 -- nobody has played to the trick
@@ -18,4 +19,9 @@ at_first trump tricks need answer held leader turn (card ∷ trick) none is told
 
 pub returns-then-len-eq0-clause-answer : goal.returns-then-len-eq0-clause-answer
 returns-then-len-eq0-clause-answer c =
-    at_first c.args.self.now.trump c.args.tricks c.args.need c.reaches_from.result (left_to c.args.hands.now c.args.left) c.args.trick.now.leader c.turn.result c.args.trick.now.cards (omega arith) c.turn.ensures c.reaches_from.ensures.answer
+    let held = left_to c.args.hands.now c.args.left in
+    if_told
+    (λ answer. IsAnswer c.args.self.now.trump (4 * c.args.tricks) c.args.need answer held c.turn.result [])
+    (λ answer. IsAnswer c.args.self.now.trump (4 * c.args.tricks - length c.args.trick.now.cards) c.args.need answer held c.args.trick.now.leader c.args.trick.now.cards)
+    (λ answer. at_first c.args.self.now.trump c.args.tricks c.args.need answer held c.args.trick.now.leader c.turn.result c.args.trick.now.cards (omega arith) c.turn.ensures)
+    c.reaches_from.result c.reaches_from.ensures.answer
