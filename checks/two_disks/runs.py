@@ -1,65 +1,26 @@
-"""Faults and power cuts over a session on two disks.
+"""Faults, power cuts and kills over a session on two disks.
 
-runs.py PROGRAM EXAMPLES FOLDER FAULTS CUTS
+runs.py PROGRAM EXAMPLES FOLDER FAULTS CUTS KILLS
 """
+import collections
 import concurrent.futures
-import http.client
+import hashlib
 import os
 import random
 import re
 import shutil
-import subprocess
 import sys
+import threading
 import time
 
-PROGRAM, EXAMPLES, FOLDER = (os.path.abspath(word) for word in sys.argv[1:4])
-FAULTS, CUTS = int(sys.argv[4]), int(sys.argv[5])
-WORKERS = os.cpu_count()
-SECTOR = 512
-TYPE = "application/x-table-lines"
+from power import Trace
+from web import EXAMPLES, FOLDER, Web, run
+
+FAULTS, CUTS, KILLS = (int(word) for word in sys.argv[4:7])
+WORKERS = int(os.environ.get("LANES") or os.cpu_count())
 with open(os.path.join(EXAMPLES, "two_tables_lines.txt")) as file:
     LINES = [line for line in file.read().splitlines() if not line.startswith("SEE")][:24]
 QUESTIONS = ["SEE 11", "SEE 12", "SEE 21", "SEE 22", "SEE 31", "SEE 41"]
-
-
-def run(*words, text=""):
-    return subprocess.run([PROGRAM, *words], input=text, text=True, capture_output=True)
-
-
-class Web:
-    """`web` over the disks `a` and `b` of a folder, or over one of them, perhaps traced."""
-
-    def __init__(self, folder, port, files=("a", "b"), trace=()):
-        self.port = port
-        disk, *copy = [os.path.join(folder, name) for name in files]
-        words = [PROGRAM, "web", disk, str(port), "60", *(word for name in copy for word in ("--copy", name))]
-        self.process = subprocess.Popen([*trace, *words], stdin=subprocess.DEVNULL, stdout=subprocess.PIPE, stderr=subprocess.PIPE, text=True)
-        self.fault = None
-        for line in self.process.stdout:
-            if line.startswith("listening"):
-                return
-        self.fault = self.process.stderr.read().strip()
-        self.process.wait()
-
-    def lines(self, *lines):
-        """The replies, or none where nothing is told."""
-        connection = http.client.HTTPConnection("127.0.0.1", self.port, timeout=30)
-        try:
-            connection.request("POST", "/lines", "".join(line + "\n" for line in lines), {"Content-Type": TYPE})
-            response = connection.getresponse()
-            return response.read().decode() if response.status == 200 else None
-        except OSError:
-            return None
-        finally:
-            connection.close()
-
-    def kill(self):
-        """Kills it, and waits until its locks are gone."""
-        traced = subprocess.run(["pgrep", "-P", str(self.process.pid)], capture_output=True, text=True).stdout.split()
-        subprocess.run(["kill", "-KILL", str(self.process.pid), *traced])
-        self.process.wait()
-        while any(os.path.exists(f"/proc/{process}") for process in traced):
-            time.sleep(0.01)
 
 
 def answers():
@@ -74,16 +35,23 @@ def answers():
     return found
 
 
-def fresh(folder):
+def fresh(folder, newer=None):
+    """Two disks of a new session, of which one may have been opened alone."""
     shutil.rmtree(folder, ignore_errors=True)
     os.makedirs(folder)
-    run("format", os.path.join(folder, "a"), os.path.join(EXAMPLES, "rows.txt"))
-    shutil.copyfile(os.path.join(folder, "a"), os.path.join(folder, "b"))
+    for side in "ab":
+        shutil.copyfile(os.path.join(FOLDER, "opened" if side == newer else "formatted"), os.path.join(folder, side))
+
+
+def begin():
+    """The disks with which runs begin: formatted, and opened once."""
+    for name in ("formatted", "opened"):
+        assert run("format", os.path.join(FOLDER, name), os.path.join(EXAMPLES, "rows.txt")).returncode == 0
+    assert run("script", os.path.join(FOLDER, "opened")).returncode == 0
 
 
 def epoch(path):
-    shown = re.search(r"^epoch (\d+)", run("check", path).stdout, re.M)
-    return int(shown.group(1)) if shown else 0
+    return int((re.findall(r"^epoch (\d+)", run("check", path).stdout, re.M) or ["0"])[0])
 
 
 def judge(what, folder, port, confirmed, sent):
@@ -103,31 +71,32 @@ def judge(what, folder, port, confirmed, sent):
     return how
 
 
-def play(web, start=0):
-    """Posts the lines one by one until nothing is told; how many were confirmed, and how many sent."""
+def play(web, start=0, many=1):
+    """Posts the lines, so many at once, until nothing is told; how many were confirmed, and how many sent."""
     confirmed = sent = start
-    for line in LINES[start:]:
-        sent += 1
-        if web.lines(line) != "OK\n":
+    while sent < len(LINES):
+        lines = LINES[sent:sent + many]
+        sent += len(lines)
+        if web.lines(*lines) != "OK\n" * len(lines):
             break
         confirmed = sent
     return confirmed, sent
 
 
-def faulty(number, side, call, at, onward, error):
+def faulty(number, many, newer, side, call, at, onward, error):
     """A run in which that call of a side fails, and maybe all such calls from it on. What came of it, if there was such a call."""
     folder, port = os.path.join(FOLDER, f"fault{number % WORKERS}"), 21000 + number % 4000
-    fresh(folder)
+    fresh(folder, newer)
     log = os.path.join(folder, "log")
-    trace = ["strace", "-f", "-qq", "-o", log, "-P", os.path.join(folder, side), f"--trace={call}",
+    trace = ["strace", "-f", "--seccomp-bpf", "-qq", "-o", log, "-P", os.path.join(folder, side), f"--trace={call}",
              f"--inject={call}:error={error}:when={at}{'+' if onward else ''}"]
     web = Web(folder, port, trace=trace)
     if web.fault is not None:
         confirmed = sent = 0
     else:
-        confirmed, sent = play(web)
+        confirmed, sent = play(web, many=many)
         web.kill()
-    what = f"{call} {at}{'+' if onward else ''} of {side}, {error}"
+    what = f"{many} at once, {newer} newer: {call} {at}{'+' if onward else ''} of {side}, {error}"
     how = judge(what, folder, port, confirmed, sent)
     assert web.fault is not None or confirmed == len(LINES), f"{what}: {confirmed} lines of {len(LINES)} were confirmed"
     with open(log) as file:
@@ -138,12 +107,11 @@ def faulty(number, side, call, at, onward, error):
 
 def in_turn(work, arguments):
     """Does these pieces of work in lanes side by side, each in a folder of its own; how often each outcome came."""
-    counts = {}
+    counts = collections.Counter()
     with concurrent.futures.ProcessPoolExecutor(WORKERS) as pool:
         lanes = [arguments[lane::WORKERS] for lane in range(WORKERS)]
         for found in pool.map(lane_of, [work] * WORKERS, lanes):
-            for outcome in found:
-                counts[outcome] = counts.get(outcome, 0) + 1
+            counts.update(found)
     return counts
 
 
@@ -155,125 +123,138 @@ def lane_of(work, arguments):
     return found
 
 
-def faults():
-    """Each call of either side in turn, alone or with those after it."""
+def faults(turn):
+    """Each call of either side in turn, alone or with those after it. From turn to turn other numbers of lines are posted at once, and
+    at the start the disks are level or either is the newer one."""
+    many, newer = (1, 3, 2, 5)[turn % 4], (None, "a", "b")[turn % 3]
     chosen = []
     for onward in (False, True):
         for call, most, errors in (("pwrite64", 38, ["EIO", "ENOSPC"]), ("fdatasync", 30, ["EIO"]), ("pread64", 24, ["EIO"])):
             chosen += [(side, call, at, onward, error) for side in "ab" for at in range(1, most + 1) for error in errors]
-    return [(number, *one) for number, one in enumerate(chosen)]
+    return [(number, many, newer, *one) for number, one in enumerate(chosen)]
 
 
-class Trace:
-    """The calls of a run of both files, in order: (side, sector, bytes), (side,) for a sync that was done, and "reply" for each reply."""
-
-    def __init__(self, text, folder):
-        self.calls = []
-        names = {}
-        for line in text.splitlines():
-            opened = re.search(r'openat\(AT_FDCWD, "([^"]*)", O_RDWR.*\) = (\d+)$', line)
-            wrote = re.search(r'pwrite64\((\d+), "((?:\\x[0-9a-f]{2})*)", \d+, (\d+)\) = \d+$', line)
-            synced = re.search(r"fdatasync\((\d+)\)\s+= 0$", line)
-            if opened:
-                path = bytes.fromhex(opened.group(1).replace("\\x", "")).decode()
-                names[opened.group(2)] = os.path.relpath(path, folder)
-            elif wrote:
-                self.calls.append((names[wrote.group(1)], int(wrote.group(3)), bytes.fromhex(wrote.group(2).replace("\\x", ""))))
-            elif synced:
-                self.calls.append((names[synced.group(1)],))
-            elif "HTTP/1.1".encode().hex() in line.replace("\\x", ""):
-                self.calls.append("reply")
-
-    def cut(self, at, images, pick):
-        """The images of both files where the power goes before that call: each write since its file's last sync is there or not."""
-        disks = {side: bytearray(images[side]) for side in "ab"}
-        unsynced = {"a": [], "b": []}
-        replies = 0
-        for call in self.calls[:at]:
-            if call == "reply":
-                replies += 1
-            elif len(call) == 1:
-                for place, data in unsynced[call[0]]:
-                    disks[call[0]][place:place + SECTOR] = data
-                unsynced[call[0]] = []
-            else:
-                unsynced[call[0]].append(call[1:])
-        for side, writes in unsynced.items():
-            for place, data in writes:
-                if pick.random() < 0.5:
-                    disks[side][place:place + SECTOR] = data
-        return disks, replies
+def killed(seed, count):
+    """So many runs that `kill -9` ends at any time."""
+    pick = random.Random(seed)
+    folder, port, outcomes = os.path.join(FOLDER, f"kill{seed % WORKERS}"), 26000 + seed % WORKERS, []
+    for number in range(count):
+        fresh(folder, pick.choice((None, "a", "b")))
+        web = Web(folder, port)
+        assert web.fault is None, web.fault
+        killer = threading.Timer(pick.random() * LASTS, web.process.kill)
+        killer.start()
+        confirmed, sent = play(web, many=pick.choice((1, 2, 3, 5)))
+        killer.join()
+        web.process.wait()
+        outcomes.append(judge(f"kill {number} of {seed}", folder, port, confirmed, sent))
+    return outcomes
 
 
-def traced(folder, port, start):
-    """A run over the files in the folder, from a line on: its images before, and its calls."""
+def traced(folder, port, start, many):
+    """A run over the files in the folder, from a line on, with so many lines at once: its images before, and its calls."""
     images = {}
     for side in "ab":
         with open(os.path.join(folder, side), "rb") as file:
             images[side] = file.read()
     log = os.path.join(folder, "log")
-    web = Web(folder, port, trace=["strace", "-f", "-qq", "-xx", "-s", "700", "-o", log, "-e", "trace=openat,pwrite64,fdatasync,write,sendto,send"])
+    web = Web(folder, port, trace=["strace", "-f", "--seccomp-bpf", "-qq", "-xx", "-s", "700", "-o", log, "-e", "trace=openat,pwrite64,fdatasync,write,sendto,send"])
     assert web.fault is None, web.fault
-    confirmed, _ = play(web, start)
+    confirmed, _ = play(web, start, many)
     web.kill()
     assert confirmed == len(LINES)
     with open(log) as file:
         trace = Trace(file.read(), folder)
-    assert trace.calls.count("reply") == confirmed - start, "a reply is missing in the trace"
+    assert trace.calls.count("reply") == -(-(confirmed - start) // many), "a reply is missing in the trace"
     return images, trace
+
+
+def written(folder, images):
+    os.makedirs(folder, exist_ok=True)
+    for side, image in images.items():
+        with open(os.path.join(folder, side), "wb") as file:
+            file.write(image)
 
 
 def cuts_of(seed, count):
     """So many cuts: of a run from the beginning, and of runs over what a cut left."""
     pick = random.Random(seed)
-    folder, port = os.path.join(FOLDER, f"cut{seed}"), 25000 + seed
-    base, done, outcomes = os.path.join(folder, "base"), 0, []
+    folder, port = os.path.join(FOLDER, f"cut{seed % WORKERS}"), 25000 + seed % WORKERS
+    base, done, outcomes, known = os.path.join(folder, "base"), 0, [], {}
     fresh(base)
     start = 0
     while done < count:
-        images, trace = traced(base, port, start)
+        many = pick.choice((1, 2, 3, 5))
+        images, trace = traced(base, port, start, many)
         for _ in range(min(100, count - done)):
             at = pick.randrange(len(trace.calls) + 1)
             disks, replies = trace.cut(at, images, pick)
-            trial = os.path.join(folder, "trial")
-            os.makedirs(trial, exist_ok=True)
-            for side in "ab":
-                with open(os.path.join(trial, side), "wb") as file:
-                    file.write(disks[side])
+            confirmed = min(start + replies * many, len(LINES))
             kept = {side: bytes(disks[side]) for side in "ab"}
-            outcomes.append(judge(f"cut {done} of {seed} at call {at}", trial, port, start + replies, len(LINES)))
             done += 1
+            # Images that were opened before need not be opened again where no more was confirmed.
+            same = hashlib.sha1(kept["a"] + kept["b"]).digest()
+            if known.get(same, -1) >= confirmed:
+                outcomes.append("with images that were opened before")
+                continue
+            known[same] = confirmed
+            written(os.path.join(folder, "trial"), kept)
+            outcomes.append(judge(f"cut {done} of {seed} at call {at}", os.path.join(folder, "trial"), port, confirmed, len(LINES)))
         # The next run begins with what the last cut left, where it may be joined.
-        fresh(base)
+        fresh(base, pick.choice((None, "a", "b")))
         start = 0
         if pick.random() < 0.7:
-            for side in "ab":
-                with open(os.path.join(base, side), "wb") as file:
-                    file.write(kept[side])
+            written(base, kept)
             web = Web(base, port)
             if web.fault is None:
                 told = web.lines(*QUESTIONS)
                 web.kill()
                 start = ANSWERS.index(told)
-                for side in "ab":
-                    with open(os.path.join(base, side), "wb") as file:
-                        file.write(kept[side])
+                written(base, kept)
             else:
                 fresh(base)
     return outcomes
 
 
+def side_by_side(work, count):
+    """So many runs, a thousand at a time, a share in each lane."""
+    counts = collections.Counter()
+    while sum(counts.values()) < count:
+        done = sum(counts.values())
+        share = -(-min(count - done, 1000) // WORKERS)
+        counts += in_turn(work, [(done + lane, share) for lane in range(WORKERS)])
+        print(f"so far: {dict(counts)}", flush=True)
+    return counts
+
+
+def all_faults():
+    """At least FAULTS runs with a fault, whole turns of them."""
+    counts, turn = collections.Counter(), 0
+    while sum(counts.values()) - counts["no such call"] < FAULTS:
+        counts += in_turn(faulty, faults(turn))
+        turn += 1
+        print(f"turn {turn}: {dict(counts)}", flush=True)
+    del counts["no such call"]
+    return counts
+
+
+def lasting():
+    """How long a run of the lines takes."""
+    folder = os.path.join(FOLDER, "whole")
+    fresh(folder)
+    web = Web(folder, 26900)
+    began = time.time()
+    assert play(web) == (len(LINES), len(LINES))
+    web.kill()
+    return time.time() - began
+
+
+begin()
 ANSWERS = answers()
-began = time.time()
-counts = {}
-while sum(counts.values()) - counts.get("no such call", 0) < FAULTS:
-    for outcome, count in in_turn(faulty, faults()).items():
-        counts[outcome] = counts.get(outcome, 0) + count
-missing = counts.pop("no such call", 0)
-print(f"{sum(counts.values())} faults: {counts}; {missing} runs had no such call; in {time.time() - began:.0f} seconds", flush=True)
-began = time.time()
-counts = {}
-share = -(-CUTS // WORKERS)
-for outcome, count in in_turn(cuts_of, [(seed, share) for seed in range(WORKERS)]).items():
-    counts[outcome] = counts.get(outcome, 0) + count
-print(f"{sum(counts.values())} cuts: {counts}; in {time.time() - began:.0f} seconds")
+LASTS = lasting()
+parts = [("faults", FAULTS, all_faults), ("cuts", CUTS, lambda: side_by_side(cuts_of, CUTS)), ("kills", KILLS, lambda: side_by_side(killed, KILLS))]
+for kind, count, work in parts:
+    began = time.time()
+    if count:
+        counts = work()
+        print(f"{sum(counts.values())} {kind}: {dict(counts)}; in {time.time() - began:.0f} seconds", flush=True)

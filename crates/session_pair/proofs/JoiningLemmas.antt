@@ -1,14 +1,22 @@
 -- Sessions on two disks.
-use Rattle.std.proofs.Common.{◌≡◌, ◌↔◌, Bool, Result, Ok, Err, IfOk, true, false, sym, ap, subst, ◌∙◌}
+use Rattle.std.proofs.Common.{◌≡◌, ◌↔◌, ◌⊎◌, ◌<◌, ◌≤◌, Bool, Result, Ok, Err, IfOk, true, false, inl, inr, sym, ap, subst, ◌∙◌}
+use Rattle.std.proofs.lemmas.Bool.{cases_lt}
 use Rattle.sector_disk.specs.Disk.{Disk}
+use Rattle.sector_disk.specs.Runs.{Quiet}
 use Rattle.bridge_config.specs.ConfigValue.{ConfigValue}
 use Rattle.bridge_session.specs.SessionKeeping.{session_keeping}
 use Rattle.session_rules.specs.declared.action.Action.{Action}
 use Rattle.session_rules.specs.State.{SessionValue, opening}
+use Rattle.session_store.specs.Looking.{IsUnseen}
 use Rattle.session_store.specs.PairOpening.{IsPairOpened}
+use Rattle.session_store.specs.Stands.{header_in}
 use Rattle.session_store.specs.Value.{StoreValue}
+use Rattle.session_store.specs.declared.fault.StoreFault.{StoreFault}
+use Rattle.session_store.specs.declared.fault.StoreFault.TheVariants.{TooSmall}
 use Rattle.session_pair.specs.Joining.{HasJoined, IsOne, OpensInOrder, SeesBoth}
+use Rattle.session_pair.specs.Unjoined.{IsUnopened, IsUnopenedInOrder, IsUnread}
 use Rattle.session_pair.specs.declared.joining.Judged.{Judged}
+use Rattle.session_pair.specs.declared.joining.JoinFault.{JoinFault}
 
 -- sessions as two configurations begin them are the same where these are
 pub one_configuration : (a b : ConfigValue) (s t : SessionValue) (same : Bool) → s ≡ opening a → t ≡ opening b
@@ -41,8 +49,40 @@ module _ {D : Type 0} (disk : Disk D) (d e d' e' : D) (judged found : Judged) (v
     works = works;
   }
 
+module _ {D : Type 0} (disk : Disk D) (d e : D) (fault : JoinFault) where
+  -- they could not be opened, the disk first
+  pub disk_unopened : (disk_first : Bool) → disk_first ≡ true → IsUnopened disk disk_first d e fault → IsUnopenedInOrder disk disk_first d e fault
+  disk_unopened true first why = why
+  disk_unopened false first why = cc
+
+  -- or the copy
+  pub copy_unopened : (disk_first : Bool) → disk_first ≡ false → IsUnopened disk disk_first e d fault → IsUnopenedInOrder disk disk_first d e fault
+  copy_unopened false second why = why
+  copy_unopened true second why = cc
+
+-- what is not decided for does not hold
+pub decided_not : (decided : Bool) (P : Type 0) → (P → decided ≡ true) → decided ≡ false → ¬ P
+decided_not decided P decides none holds = never (sym (decides holds) ∙ none)
+  where
+    never : true ≡ false → ⊥
+    never same = cc
+
 -- what three clauses say of an answer they say together
 pub ok_with : {X E : Type 0} (P Q R T : X → Type 0) (r : Result X E) → ((x : X) → P x → Q x → R x → T x)
     → IfOk r P → IfOk r Q → IfOk r R → IfOk r T
 ok_with P Q R T (Ok x) all p q t = all x p q t
 ok_with P Q R T (Err e) all p q t = tt
+
+-- why reading a disk gave no session
+pub unread : {D X : Type 0} (disk : Disk D) (d left : D) (result : Result X StoreFault) (fault : StoreFault) → result ≡ Err fault
+    → Quiet disk d left → (disk.count d < 2048 → (result ≡ Err TooSmall) × (left ≡ d))
+    → (2048 ≤ disk.count d → IsUnseen session_keeping disk header_in d left fault) → IsUnread disk d left fault
+unread {X = X} disk d left result fault is quiet small unseen = (quiet, at (cases_lt (disk.count d) 2048))
+  where
+    named : result ≡ Err TooSmall → fault ≡ TooSmall
+    named too_small = ap (λ (r : Result X StoreFault). elim r [ Ok _ ↦ fault | Err e ↦ e ]) (sym is ∙ too_small)
+
+    at : (disk.count d < 2048) ⊎ (2048 ≤ disk.count d)
+        → ((disk.count d < 2048) × (fault ≡ TooSmall)) ⊎ IsUnseen session_keeping disk header_in d left fault
+    at (inl few) = inl (few, named (small few).0)
+    at (inr many) = inr (unseen many)

@@ -9,7 +9,7 @@ use Rattle.session_store.specs.Pair.{IsServedPair, IsToldPair, ServedLaw, standi
 use Rattle.session_store.specs.Settling.{IsSettledPair, IsSettledAs}
 use Rattle.session_store.specs.declared.standing.PairStanding.{PairStanding}
 use Rattle.session_store.proofs.SettlingLemmas.{none-still, not_both}
-use Rattle.session_pair.specs.Telling.{HasConfirmed, WereServed, of_side, shown_of}
+use Rattle.session_pair.specs.Telling.{HasConfirmed, StaysShown, WereServed, of_side, shown_of}
 
 -- where a pair stands somehow and one side has failed, the other works
 second-works : (x y : Bool) (found : PairStanding) → x ≡ true → standing_of x y ≡ Some found → y ≡ false
@@ -31,34 +31,42 @@ confirmed-still {D} {S} {A} {R} kept disk v v' call confirmed works = elim (case
 ]
 
 module _ {D E S A R : Type 0} (kept : Keeping S A R) (first : Disk D) (second : Disk E) (v v' : StoreValue D S A) (w w' : StoreValue E S A) where
-  -- the first side is lost where it was, what is shown is the same, and one side works
-  abbrev pub Stays : Type 0
-  Stays = (v'.failed ≡ v.failed) × (shown_of v' w' ≡ shown_of v w) × ((v'.failed ≡ false) ⊎ (w'.failed ≡ false))
-
   module _ {X : Type 0} (found : PairStanding) (calls : Continues kept first v [] v') (calls' : Continues kept second w [] w') (rests : IsSettledPair v w → X × (v' ≡ v) × (w' ≡ w)) (settled : IsSettledAs v w v' w' found) where
     -- where both disks are kept
-    level : v.failed ≡ false → w.failed ≡ false → Stays
+    level : v.failed ≡ false → w.failed ≡ false → StaysShown v w v' w'
     level works works' =
         let same = rests (inl (works, works')) in
         let failed = ap (λ (x : StoreValue D S A). x.failed) same.1 in
-        (failed, ap (λ (x : StoreValue D S A). shown_of x w') same.1 ∙ ap (λ (y : StoreValue E S A). shown_of v y) same.2, inl (failed ∙ works))
+        record {
+          works = inl (failed ∙ works);
+          lost = failed;
+          state = ap (λ (x : StoreValue D S A). shown_of x w') same.1 ∙ ap (λ (y : StoreValue E S A). shown_of v y) same.2;
+        }
 
     -- where the first was lost
-    first_lost : v.failed ≡ true → Stays
+    first_lost : v.failed ≡ true → StaysShown v w v' w'
     first_lost lost =
         let failed = ap (λ (x : StoreValue D S A). x.failed) (calls.ages.rests lost) in
         let lost' = failed ∙ lost in
         let works = second-works v'.failed w'.failed found lost' settled.0 in
-        (failed, ap (λ (b : Bool). of_side b v'.state w'.state) lost' ∙ settled.2 ∙ sym (ap (λ (b : Bool). of_side b v.state w.state) lost), inr works)
+        record {
+          works = inr works;
+          lost = failed;
+          state = ap (λ (b : Bool). of_side b v'.state w'.state) lost' ∙ settled.2 ∙ sym (ap (λ (b : Bool). of_side b v.state w.state) lost);
+        }
 
     -- where the second was lost, and not the first
-    second_lost : v.failed ≡ false → w.failed ≡ true → Stays
+    second_lost : v.failed ≡ false → w.failed ≡ true → StaysShown v w v' w'
     second_lost works lost =
         let lost' = ap (λ (y : StoreValue E S A). y.failed) (calls'.ages.rests lost) ∙ lost in
         let works' = first-works v'.failed w'.failed found lost' settled.0 in
-        (works' ∙ sym works, ap (λ (b : Bool). of_side b v'.state w'.state) works' ∙ settled.1 ∙ sym (ap (λ (b : Bool). of_side b v.state w.state) works), inl works')
+        record {
+          works = inl works';
+          lost = works' ∙ sym works;
+          state = ap (λ (b : Bool). of_side b v'.state w'.state) works' ∙ settled.1 ∙ sym (ap (λ (b : Bool). of_side b v.state w.state) works);
+        }
 
-    pub stays : Stays
+    pub stays : StaysShown v w v' w'
     stays = elim (cases_Bool v.failed) [
       | inl lost ↦ first_lost lost
       | inr works ↦ elim (cases_Bool w.failed) [

@@ -58,7 +58,7 @@ abbrev pub IsUnjudged : SessionValue → ℕ → SessionValue → ℕ → JoinFa
 IsUnjudged s epoch t other_epoch OtherSession = s.configuration ≢ t.configuration
 IsUnjudged s epoch t other_epoch (OtherPlays row) = (s.configuration ≡ t.configuration) × ¬ (MayFollow s epoch t other_epoch) × (s ≢ t)
     × IsLackingInGreater s epoch t other_epoch row
-IsUnjudged s epoch t other_epoch (NoDisk fault) = fault ≡ NoMemory
+IsUnjudged s epoch t other_epoch (NoDisk fault) = (fault ≡ NoMemory) × (s ≢ t)
 IsUnjudged s epoch t other_epoch (NoCopy fault) = ⊥
 
 -- both stores work, and nothing is pending in either

@@ -1,3 +1,4 @@
 pub mod Choosing
 pub mod Telling
 pub mod Joining
+pub mod Unjoined

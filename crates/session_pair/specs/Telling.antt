@@ -38,6 +38,13 @@ module _ {D E S A R : Type 0} (kept : Keeping S A R) (first : Disk D) (second : 
   MayTell v' w' may last other = (v : StoreValue D S A) (w : StoreValue E S A) → WereServed v w v' w' → may ≡ true
       → IsToldPair kept first second last other (shown_of last other)
 
+-- of stores, as they were served and as they are settled then, one works, the first is lost where it was, and what is shown is the
+-- same
+pub record StaysShown {D E S A : Type 0} (v : StoreValue D S A) (w : StoreValue E S A) (v' : StoreValue D S A) (w' : StoreValue E S A) : Type 0 where
+  pub works : (v'.failed ≡ false) ⊎ (w'.failed ≡ false)
+  pub lost : v'.failed ≡ v.failed
+  pub state : shown_of v' w' ≡ shown_of v w
+
 -- both stores work, and have not the same state
 abbrev pub AreApart : {D E S A : Type 0} → StoreValue D S A → StoreValue E S A → Type 0
 AreApart v w = (v.failed ≡ false) × (w.failed ≡ false) × (v.state ≢ w.state)

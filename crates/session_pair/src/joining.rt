@@ -2,6 +2,7 @@
 ghost use Rattle.std.specs.Prelude.{◌≡◌, ◌↔◌, true, IfOk, IfErr};
 ghost use Rattle.std.specs.Bool.{Decides};
 ghost use Rattle.session_pair.specs.Joining.{IsJudged, IsUnjudged, HasJoined, IsLacking, IsLackingInGreater, MayFollow, SeesBoth, IsOne};
+ghost use Rattle.session_pair.specs.Unjoined.{pair_fault, CannotJudge, IsNotJoined, IsUnopened};
 ghost use Rattle.session_pair.specs.Choosing.{ComesFirst};
 ghost use Rattle.sector_disk.specs.Runs.{Quiet};
 ghost use Rattle.session_store.specs.PairOpening.{IsPairOpened};
@@ -11,10 +12,7 @@ use crate::comes_first;
 use bridge_movement::Row;
 use bridge_session::Session;
 use sector_disk::SectorDisk;
-use session_store::{
-    PairFault, PairStanding, Reading, Store, StoreFault, is_same_state, open_pair, pair_standing,
-    read_state,
-};
+use session_store::{PairFault, Reading, Store, StoreFault, is_same_state, open_pair, read_state};
 use std::alloc::{AllocError, Global};
 use std::cmp::Ordering;
 
@@ -146,6 +144,7 @@ fn judge_disks<D: SectorDisk>(
     copy: &mut D,
 ) -> Result<Judged, JoinFault>
     ensures judged { IfOk result (SeesBoth D.disk disk.old copy.old disk.new copy.new) }
+    ensures fault { IfErr result (CannotJudge D.disk disk.old copy.old disk.new copy.new) }
     ensures disk { Quiet D.disk disk.old disk.new }
     ensures copy { Quiet D.disk copy.old copy.new }
 {
@@ -160,22 +159,18 @@ fn judge_disks<D: SectorDisk>(
 
 /// Whether both stores work, and nothing is pending in either.
 fn are_level<D: SectorDisk + Drop>(first: &Store<D, Session>, second: &Store<D, Session>) -> bool
-    ensures { result ≡ true → IsOne first.now second.now }
+    ensures { Decides result (IsOne first.now second.now) }
 {
-    if !first.pending().is_empty() {
-        return false;
-    }
-    if !second.pending().is_empty() {
-        return false;
-    }
-    match pair_standing(first, second) {
-        Some(PairStanding::Level) => true,
+    match (first.has_failed(), second.has_failed()) {
+        (false, false) => first.pending().is_empty() && second.pending().is_empty(),
         _ => false,
     }
 }
 
 /// The fault of the disk that was taken first, or of the other.
-fn fault_of(disk_first: bool, fault: PairFault) -> JoinFault {
+fn fault_of(disk_first: bool, fault: PairFault) -> JoinFault
+    ensures { result ≡ pair_fault disk_first fault }
+{
     match (fault, disk_first) {
         (PairFault::First(fault), true) => JoinFault::Disk(fault),
         (PairFault::First(fault), false) => JoinFault::Copy(fault),
@@ -196,6 +191,7 @@ fn open_both<D: SectorDisk + Drop>(
     ensures opened { IfOk result (λ joined. IsPairOpened session_keeping D.disk D.disk first second joined.first joined.second) }
     ensures judged { IfOk result (λ joined. joined.judged ≡ judged) }
     ensures level { IfOk result (λ joined. IsOne joined.first joined.second) }
+    ensures fault { IfErr result (IsUnopened D.disk judged.disk_first first second) }
 {
     match open_pair(alloc, first, second) {
         Ok((first, second)) => {
@@ -221,6 +217,7 @@ pub fn join_disks<D: SectorDisk + Drop>(
     copy: D,
 ) -> Result<Joined<Store<D, Session>>, JoinFault>
     ensures joined { IfOk result (λ joined. HasJoined D.disk disk copy joined.judged joined.first joined.second) }
+    ensures fault { IfErr result (IsNotJoined D.disk disk copy) }
 {
     let mut disk = disk;
     let mut copy = copy;

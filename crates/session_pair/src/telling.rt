@@ -1,8 +1,7 @@
 //! When what a pair of stores served may be told.
 ghost use Rattle.std.specs.Prelude.{◌≡◌, [], true, false};
-ghost use Rattle.session_store.specs.Pair.{OneWorks};
 ghost use Rattle.session_store.specs.Store.{Continues};
-ghost use Rattle.session_pair.specs.Telling.{AreApart, CannotTell, MayTell, StaysConfirmed, shown_of};
+ghost use Rattle.session_pair.specs.Telling.{AreApart, CannotTell, MayTell, StaysConfirmed, StaysShown, shown_of};
 
 use sector_disk::SectorDisk;
 use session_store::{Kept, Store, is_same_state, pair_laws, settle_pair};
@@ -46,9 +45,7 @@ pub fn settle_served<A: SectorDisk + Drop, B: SectorDisk + Drop, K: Kept>(
 ) -> bool
     ensures told { MayTell K.kept A.disk B.disk first.old second.old result first.new second.new }
     ensures untold { result ≡ false → CannotTell first.old second.old first.new second.new }
-    ensures works { result ≡ true → OneWorks K.kept A.disk B.disk first.new second.new }
-    ensures state { result ≡ true → shown_of first.new second.new ≡ shown_of first.old second.old }
-    ensures lost { result ≡ true → first.new.failed ≡ first.old.failed }
+    ensures shown { result ≡ true → StaysShown first.old second.old first.new second.new }
     ensures settled { Continues K.kept A.disk first.old [] first.new × Continues K.kept B.disk second.old [] second.new }
     ensures confirmed { StaysConfirmed first.old first.new × StaysConfirmed second.old second.new }
 {

@@ -15,7 +15,7 @@ returns-then-has_failed-clause-served g c = record {
   second_served = c.answer_lines-theirs.new.store;
   second_answers = (c.answer_lines-theirs.ensures.answered, c.answer_lines-theirs.ensures.faults);
   second_settled = c.settle_served.ensures.settled.1;
-  may_tell = λ works. c.settle_served.ensures.works c.if-settle_served.true;
+  may_tell = λ works. (c.settle_served.ensures.shown c.if-settle_served.true).works;
   told = λ works s told.
       c.settle_served.ensures.told c.args.first.now c.args.second.now
       (both_served g.A.SectorDisk.disk g.B.SectorDisk.disk c.args.first.now c.answer_lines-ours.new.store c.args.second.now
@@ -49,7 +49,7 @@ returns-then-settle_served-clause-served g c = record {
   second_served = c.answer_lines-theirs.new.store;
   second_answers = (c.answer_lines-theirs.ensures.answered, c.answer_lines-theirs.ensures.faults);
   second_settled = c.settle_served.ensures.settled.1;
-  may_tell = λ works. c.settle_served.ensures.works c.if-settle_served.true;
+  may_tell = λ works. (c.settle_served.ensures.shown c.if-settle_served.true).works;
   told = λ works s told.
       c.settle_served.ensures.told c.args.first.now c.args.second.now
       (both_served g.A.SectorDisk.disk g.B.SectorDisk.disk c.args.first.now c.answer_lines-ours.new.store c.args.second.now

@@ -1,4 +1,7 @@
-use Rattle.session_pair.proofs.JoiningLemmas.{disk_taken, copy_taken, ok_with}
+use Rattle.std.proofs.Common.{inl, inr}
+use Rattle.std.proofs.lemmas.Result.{IfErr-weaker}
+use Rattle.session_pair.specs.Unjoined.{IsNotJoined, IsUnopened}
+use Rattle.session_pair.proofs.JoiningLemmas.{disk_taken, copy_taken, disk_unopened, copy_unopened, ok_with}
 use Rattle.session_pair.proofs.joining.join_disks.Goals as goal
 
 pub returns-then-judged : goal.returns-then-judged
@@ -6,11 +9,15 @@ returns-then-judged g c =
     let disk = g.D.SectorDisk.disk in
     let read = c.judge_disks.new.disk in
     let other = c.judge_disks.new.copy in
+    let judged = c.in-Ok.judged in
     record {
       joined = ok_with _ _ _ _ c.open_both.result
           (λ joined opened same works. disk_taken disk c.args.disk c.args.copy read other c.in-Ok.judged joined.judged joined.first joined.second
           c.in-Ok.ensures.judged c.if-judged.true same opened works)
           c.open_both.ensures.opened c.open_both.ensures.judged c.open_both.ensures.level;
+      fault = IfErr-weaker c.open_both.result (IsUnopened disk judged.disk_first read other) (IsNotJoined disk c.args.disk c.args.copy)
+          (λ fault why. (read, other, inr (judged, c.in-Ok.ensures.judged, disk_unopened disk read other fault judged.disk_first c.if-judged.true why)))
+          c.open_both.ensures.fault;
     }
 
 pub returns-else-judged : goal.returns-else-judged
@@ -18,9 +25,17 @@ returns-else-judged g c =
     let disk = g.D.SectorDisk.disk in
     let read = c.judge_disks.new.disk in
     let other = c.judge_disks.new.copy in
+    let judged = c.in-Ok.judged in
     record {
       joined = ok_with _ _ _ _ c.open_both-else-judged.result
           (λ joined opened same works. copy_taken disk c.args.disk c.args.copy read other c.in-Ok.judged joined.judged joined.first joined.second
           c.in-Ok.ensures.judged c.if-judged.false same opened works)
           c.open_both-else-judged.ensures.opened c.open_both-else-judged.ensures.judged c.open_both-else-judged.ensures.level;
+      fault = IfErr-weaker c.open_both-else-judged.result (IsUnopened disk judged.disk_first other read)
+          (IsNotJoined disk c.args.disk c.args.copy)
+          (λ fault why. (read, other, inr (judged, c.in-Ok.ensures.judged, copy_unopened disk read other fault judged.disk_first c.if-judged.false why)))
+          c.open_both-else-judged.ensures.fault;
     }
+
+pub returns-in-Err-clause-fault : goal.returns-in-Err-clause-fault
+returns-in-Err-clause-fault g c = (c.judge_disks.new.disk, c.judge_disks.new.copy, inl c.in-Err.ensures.fault)

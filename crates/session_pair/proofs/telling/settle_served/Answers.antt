@@ -8,22 +8,12 @@ returns-in-Ok-clause-told g c = λ v w served is.
     c.settle_pair.new.second _ c.settle_pair.ensures.first c.settle_pair.ensures.second c.in-Ok.ensures.settled c.in-Ok.ensures.standing in
     tells g.K.Kept.kept g.A.SectorDisk.disk g.B.SectorDisk.disk c.args.first.now c.settle_pair.new.first c.args.second.now
     c.settle_pair.new.second v w c.pair_laws.ensures.served served (c.is_one_state-is_one.ensures.first is)
-    (c.is_one_state-is_one.ensures.second is) c.in-Ok.ensures.told stay.1
+    (c.is_one_state-is_one.ensures.second is) c.in-Ok.ensures.told stay.state
 
-pub returns-in-Ok-clause-works : goal.returns-in-Ok-clause-works
-returns-in-Ok-clause-works g c = λ is.
-    (stays g.K.Kept.kept g.A.SectorDisk.disk g.B.SectorDisk.disk c.args.first.now c.settle_pair.new.first c.args.second.now
-    c.settle_pair.new.second _ c.settle_pair.ensures.first c.settle_pair.ensures.second c.in-Ok.ensures.settled c.in-Ok.ensures.standing).2
-
-pub returns-in-Ok-clause-state : goal.returns-in-Ok-clause-state
-returns-in-Ok-clause-state g c = λ is.
-    (stays g.K.Kept.kept g.A.SectorDisk.disk g.B.SectorDisk.disk c.args.first.now c.settle_pair.new.first c.args.second.now
-    c.settle_pair.new.second _ c.settle_pair.ensures.first c.settle_pair.ensures.second c.in-Ok.ensures.settled c.in-Ok.ensures.standing).1
-
-pub returns-in-Ok-clause-lost : goal.returns-in-Ok-clause-lost
-returns-in-Ok-clause-lost g c = λ is.
-    (stays g.K.Kept.kept g.A.SectorDisk.disk g.B.SectorDisk.disk c.args.first.now c.settle_pair.new.first c.args.second.now
-    c.settle_pair.new.second _ c.settle_pair.ensures.first c.settle_pair.ensures.second c.in-Ok.ensures.settled c.in-Ok.ensures.standing).0
+pub returns-in-Ok-clause-shown : goal.returns-in-Ok-clause-shown
+returns-in-Ok-clause-shown g c = λ is.
+    stays g.K.Kept.kept g.A.SectorDisk.disk g.B.SectorDisk.disk c.args.first.now c.settle_pair.new.first c.args.second.now
+    c.settle_pair.new.second _ c.settle_pair.ensures.first c.settle_pair.ensures.second c.in-Ok.ensures.settled c.in-Ok.ensures.standing
 
 pub returns-in-Ok-clause-settled : goal.returns-in-Ok-clause-settled
 returns-in-Ok-clause-settled g c = (c.settle_pair.ensures.first, c.settle_pair.ensures.second)
