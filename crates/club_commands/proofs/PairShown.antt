@@ -1,5 +1,5 @@
 -- Pages over two disks.
-use Rattle.std.proofs.Common.{◌≡◌, ◌&&◌, Bool, Option, true, inr, sym, ap, subst, ◌∙◌}
+use Rattle.std.proofs.Common.{◌≡◌, ◌&&◌, Bool, Option, true, ◌⊎◌, inl, inr, sym, ap, subst, ◌∙◌}
 use Rattle.bridge_results.specs.ShownPairs.{Names}
 use Rattle.command_line.specs.declared.command.WebHost.{WebHost}
 use Rattle.club_disk.specs.Stored.{ClubStore}
@@ -8,6 +8,7 @@ use Rattle.line_text.specs.Streams.{Stream}
 use Rattle.session_pair.specs.Joining.{IsOne}
 use Rattle.session_pair.specs.declared.joining.Judged.{Judged}
 use Rattle.pair_pages.specs.Pair.{are_settled, pair_of}
+use Rattle.pair_pages.specs.declared.disk_names.DiskNames.{DiskNames}
 use Rattle.pair_pages.specs.declared.pair_server.PairServer.{PairServer}
 use Rattle.session_store.specs.Pair.{standing_of}
 use Rattle.session_store.specs.declared.standing.PairStanding.{PairStanding}
@@ -15,8 +16,8 @@ use Rattle.table_pages.specs.Answered.{is_settled}
 use Rattle.table_pages.specs.Site.{Site}
 use Rattle.table_pages.specs.declared.page_texts.PageTexts.{PageTexts}
 use Rattle.club_commands.specs.Ended.{Ended}
-use Rattle.club_commands.specs.PairWeb.{ServerOver, pair_ended_by, IsBegun, ShowsPairAt, ShowsJoinedWith}
-use Rattle.club_commands.specs.Web.{site_at}
+use Rattle.club_commands.specs.PairWeb.{ServerOver, pair_ended_by, IsBegun, IsNothingShown, ShowsPairAt, ShowsJoinedWith}
+use Rattle.club_commands.specs.Web.{site_at, IsUnshown}
 use Rattle.club_commands.proofs.Shown.{settled_store}
 
 -- stores that work and have nothing pending are settled
@@ -35,10 +36,11 @@ ended_at {D} {E} server last stopped standing disk_first has_clock ended same st
     (stands ∙ ap (λ (p : ServerOver D E). standing_of p.first.failed p.second.failed) same)
 
 -- pages were shown over these stores at the site of the program and the words
-pub joined_shown : (texts : PageTexts) (web : WebHost) (names : Names) (judged : Judged) (v w : ClubStore) (site : Site)
+pub joined_shown : (texts : PageTexts) (web : WebHost) (names : Names) (disks : DiskNames) (judged : Judged) (v w : ClubStore) (site : Site)
     (begun start last : PairServer ClubStore ClubStore) (output : Stream) (ended : Ended)
-    → site ≡ site_at texts web (people_text names v.state.configuration.pairs) → start ≡ begun → IsBegun v w begun
-    → ShowsPairAt judged site start last output ended
-    → ShowsJoinedWith texts web output ended names judged v w
-joined_shown texts web names judged v w site begun start last output ended at same begins shown =
-    inr (site, start, last, at, subst (λ (p : PairServer ClubStore ClubStore). IsBegun v w p) (sym same) begins, shown)
+    → site ≡ site_at texts web (people_text names v.state.configuration.pairs) → start ≡ begun → IsBegun disks v w begun
+    → IsNothingShown (IsUnshown web) output ended ⊎ ShowsPairAt judged site start last output ended
+    → ShowsJoinedWith texts web output ended names disks judged v w
+joined_shown texts web names disks judged v w site begun start last output ended at same begins (inl none) = inl none
+joined_shown texts web names disks judged v w site begun start last output ended at same begins (inr shown) =
+    inr (site, start, last, at, subst (λ (p : PairServer ClubStore ClubStore). IsBegun disks v w p) (sym same) begins, shown)

@@ -1,6 +1,6 @@
 -- What the command `check` says of a disk: how far its session is, and how its snapshots stand.
-use Rattle.std.specs.Prelude.{◌≡◌, ◌≢◌, ◌⊎◌, ◌+◌, ◌++◌, ℕ, List, [], ◌∷◌, codes, if◌then◌else◌, is_some, Option, None, Some, sum_by}
-use Rattle.club_commands.specs.Basis.{decimal, Stream, Disk, Image, StoreFault, NotFormatted, Damaged, header_in, session_keeping, SessionValue, Store, RefusesReading}
+use Rattle.std.specs.Prelude.{◌≡◌, ◌⊎◌, ◌+◌, ◌++◌, ℕ, List, [], ◌∷◌, codes, if◌then◌else◌, is_some, Option, None, Some, Err, sum_by}
+use Rattle.club_commands.specs.Basis.{decimal, Stream, IsUntouched, Disk, Image, StoreFault, NotFormatted, Damaged, header_in, session_keeping, SessionValue, Store, RefusesReading}
 use Rattle.sector_disk.specs.Runs.{Quiet}
 use Rattle.session_store.specs.declared.disk_format.DiskFormat.{DiskFormat}
 use Rattle.session_store.specs.declared.reading.Header.{Header}
@@ -13,7 +13,7 @@ use Rattle.session_rules.specs.declared.outcome.Outcome.{Outcome}
 use Rattle.session_rules.specs.declared.outcome.Outcome.TheVariants.{Unfinished}
 use Rattle.session_rules.specs.Outcome.{outcome_of}
 use Rattle.session_rules.specs.State.{is_closed, deal_on, record_of}
-use Rattle.club_commands.specs.Ended.{Ended, Writes, WritesAndStops, IsRefusedFor, store_line}
+use Rattle.club_commands.specs.Ended.{Ended, Writes, WritesAndStops, store_line}
 
 -- 1 where the board is dealt, and else 0
 abbrev pub dealt_boards_at : SessionValue → ℕ → ℕ
@@ -84,13 +84,19 @@ module _ {D : Type 0} (disk : Disk D) where
   SaysOlder d left text = SaysSeen disk older_header_in (codes "older snapshot\n") d left text
       ⊎ ((fault : StoreFault) × RefusesReading disk older_header_in d left fault × (text ≡ no_older_text fault))
 
-  -- reading the disk met a damaged sector, which is the fault, and what the older snapshot holds is written, or why it gives none
-  abbrev pub ChecksDamaged : D → D → Stream → Ended → Type 0
-  ChecksDamaged d left output ended = (read : D) × (sector : ℕ) × RefusesReading disk header_in d read (Damaged sector)
-      × ((text : List ℕ) × SaysOlder read left text × WritesAndStops output text (Store (Damaged sector)) ended)
+  -- what is said of a disk that gave nothing when it was read: at a damaged sector what the older snapshot holds is written, or why it
+  -- gives none; else nothing is written; the fault is why it gave nothing
+  abbrev pub SaysRefused : D → D → StoreFault → Stream → Ended → Type 0
+  SaysRefused read left (Damaged sector) output ended =
+      (text : List ℕ) × SaysOlder read left text × WritesAndStops output text (Store (Damaged sector)) ended
+  SaysRefused read left fault output ended = (left ≡ read) × (ended ≡ Err (Store fault)) × IsUntouched output
 
-  -- what a disk holds is written; or it is damaged; or reading it gave nothing, and nothing is written; reading left it so
+  -- a disk was read, which gave nothing, and that is said of it
+  abbrev pub ChecksRefused : D → D → Stream → Ended → Type 0
+  ChecksRefused d left output ended =
+      (read : D) × (cause : StoreFault) × RefusesReading disk header_in d read cause × SaysRefused read left cause output ended
+
+  -- what a disk holds is written; or reading it gave nothing, which is said; reading left it so
   abbrev pub Checks : D → D → Stream → Ended → Type 0
   Checks d left output ended = ((text : List ℕ) × SaysSeen disk header_in [] d left text × Writes output text ended)
-      ⊎ (ChecksDamaged d left output ended
-      ⊎ IsRefusedFor (λ cause. ((sector : ℕ) → cause ≢ Damaged sector) × RefusesReading disk header_in d left cause) output ended)
+      ⊎ ChecksRefused d left output ended

@@ -1,24 +1,16 @@
 -- What the command `check` says of two disks: what each holds, and how they stand to each other.
 use Rattle.std.specs.Prelude.{◌≡◌, ◌⊎◌, ◌++◌, ℕ, Bool, true, false, List, [], codes, Option, None, Some, Result, Ok, Err, IfOk, IfErr}
-use Rattle.club_commands.specs.Basis.{Bor, Stream, IsUntouched, Disk, ClubDisk, file_disk, header_in, session_keeping, SessionValue, StoreFault, DiskFault, NoMemory, RefusesReading, RunFault, Store}
+use Rattle.club_commands.specs.Basis.{Bor, Stream, IsUntouched, Disk, ClubDisk, file_disk, header_in, StoreFault, DiskFault, NoMemory, RefusesReading, RunFault, Store}
 use Rattle.club_commands.specs.declared.fault.RunFault.TheVariants.{Joining}
 use Rattle.club_commands.specs.declared.work.Work.TheVariants as work
-use Rattle.sector_disk.specs.Runs.{Quiet}
 use Rattle.session_pair.specs.Joining.{IsJudged, IsUnjudged}
+use Rattle.session_pair.specs.Unjoined.{Held, IsHeld}
 use Rattle.session_pair.specs.declared.joining.Judged.{Judged}
 use Rattle.session_pair.specs.declared.joining.JoinFault.{JoinFault}
 use Rattle.session_pair.specs.declared.joining.JoinFault.TheVariants.{Copy as NoCopy}
-use Rattle.session_rules.specs.declared.action.Action.{Action}
-use Rattle.session_rules.specs.declared.refused.Refused.{Refused}
-use Rattle.session_store.specs.Looking.{IsSeen}
-use Rattle.session_store.specs.declared.looking.Reading.{Reading}
-use Rattle.club_commands.specs.Checked.{with_standing, with_state, Checks}
+use Rattle.club_commands.specs.Checked.{with_standing, with_state, ChecksRefused}
 use Rattle.club_commands.specs.Ended.{Ended, Writes, WritesAndStops}
 use Rattle.club_commands.specs.Works.{HasWorked}
-
--- what was read of a disk
-abbrev pub Held : Type 0
-Held = Reading SessionValue Action Refused
 
 -- it, below a heading
 abbrev pub held_text : List ℕ → Held → List ℕ
@@ -69,20 +61,14 @@ abbrev pub StopsAlone : Held → StoreFault → Stream → Ended → Type 0
 StopsAlone ours cause output ended = WritesAndStops output (held_text (codes "disk\n") ours) (Joining (NoCopy cause)) ended
 
 module _ {D : Type 0} (disk : Disk D) where
-  -- that was read of a disk, and reading left it so
-  abbrev pub IsHeld : D → D → Held → Type 0
-  IsHeld d left found = Quiet disk d left
-      × IsSeen session_keeping disk header_in d left found.state found.format found.epoch found.sector found.records
-
-  -- The first of two disks gave nothing, and was looked at alone; or the second gave nothing, which is the fault, and what the first
+  -- The first of two disks gave nothing, which is said of it alone; or the second gave nothing, which is the fault, and what the first
   -- holds is written; or both were read, and what they hold is written. Nothing was written to either.
   abbrev pub ChecksTwo : D → D → D → D → Stream → Ended → Type 0
   ChecksTwo d e left other output ended =
-      ((read : D) × (cause : StoreFault) × Quiet disk d read × RefusesReading disk header_in d read cause × (other ≡ e)
-      × Checks disk read left output ended)
-      ⊎ (((ours : Held) × (cause : StoreFault) × IsHeld d left ours × RefusesReading disk header_in e other cause
+      ((other ≡ e) × ChecksRefused disk d left output ended)
+      ⊎ (((ours : Held) × (cause : StoreFault) × IsHeld disk d left ours × RefusesReading disk header_in e other cause
       × StopsAlone ours cause output ended)
-      ⊎ ((ours : Held) × (theirs : Held) × IsHeld d left ours × IsHeld e other theirs × TellsTwo ours theirs output ended))
+      ⊎ ((ours : Held) × (theirs : Held) × IsHeld disk d left ours × IsHeld disk e other theirs × TellsTwo ours theirs output ended))
 
 -- the disk was not found, or the copy was not
 abbrev pub IsNotFound : RunFault → Type 0

@@ -1,7 +1,8 @@
 -- What the command `web` does with a second disk.
-use Rattle.std.specs.Prelude.{◌≡◌, ◌⊎◌, ◌++◌, ℕ, Bool, true, false, not, List, codes, Option, Some, None, Result, Ok, Err, MatchBool, length}
-use Rattle.club_commands.specs.Basis.{Bor, Stream, Takes, TakesPrefix, IsUntouched, Disk, file_disk, ClubDisk, ClubStore, DiskFault, StreamFault, Write, RunFault, System, Store}
-use Rattle.club_commands.specs.declared.fault.RunFault.TheVariants.{Lost}
+use Rattle.std.specs.Prelude.{◌≡◌, ◌⊎◌, ◌++◌, ℕ, Bool, true, false, not, List, codes, Option, Some, None, Result, Ok, Err, MatchBool, length, string_bytes}
+use Rattle.club_commands.specs.Basis.{Bor, Stream, Takes, TakesPrefix, IsUntouched, Disk, file_disk, ClubDisk, ClubStore, DiskFault, NoMemory, StreamFault, Write, RunFault, System, Store}
+use Rattle.club_commands.specs.declared.fault.RunFault.TheVariants.{Joining, Lost}
+use Rattle.club_commands.specs.declared.copied.TwoDisks.{TwoDisks}
 use Rattle.club_commands.specs.declared.fault.LostDisk.{LostDisk}
 use Rattle.club_commands.specs.declared.fault.LostDisk.TheVariants as lost
 use Rattle.club_commands.specs.declared.fault.SystemFault.TheVariants.{Clock}
@@ -24,8 +25,11 @@ use Rattle.page_replies.specs.ToldResults.{ResultsTo}
 use Rattle.session_rules.specs.declared.action.Action.{Action}
 use Rattle.session_rules.specs.State.{SessionValue}
 use Rattle.session_pair.specs.Joining.{HasJoined}
+use Rattle.session_pair.specs.Unjoined.{IsNotJoined}
+use Rattle.session_pair.specs.declared.joining.JoinFault.{JoinFault}
 use Rattle.session_pair.specs.declared.joining.Judged.{Judged}
 use Rattle.pair_pages.specs.Pair.{PairValue, pair_of, session_of, desk_of, AnswersPair}
+use Rattle.pair_pages.specs.declared.disk_names.DiskNames.{DiskNames}
 use Rattle.pair_pages.specs.declared.pair_server.PairServer.{PairServer}
 use Rattle.session_store.specs.Pair.{standing_of}
 use Rattle.session_store.specs.Value.{StoreValue}
@@ -37,9 +41,10 @@ use Rattle.table_pages.specs.Waits.{wait_reply}
 use Rattle.table_pages.specs.declared.page_texts.PageTexts.{PageTexts}
 use Rattle.table_server.specs.declared.line_set.LineSet.{LineSet}
 use Rattle.web_loop.specs.Turns.{LeadsTo}
+use Rattle.club_commands.specs.CheckedTwo.{IsNotFound}
 use Rattle.club_commands.specs.Ended.{Ended}
 use Rattle.club_commands.specs.Listed.{RefusesList}
-use Rattle.club_commands.specs.Web.{listening_line, site_at}
+use Rattle.club_commands.specs.Web.{listening_line, site_at, IsUnshown}
 
 -- a server of pages over the stores of two disks
 abbrev pub ServerOver : Type 0 → Type 0 → Type 0
@@ -114,55 +119,85 @@ abbrev pub level_line : Bool → List ℕ
 level_line true = codes "copy is level\n"
 level_line false = codes "copy brought up to date\n"
 
--- nothing was done for some fault, and nothing is written
-abbrev pub IsNothingShown : Stream → Ended → Type 0
-IsNothingShown output ended = (fault : RunFault) × (ended ≡ Err fault) × IsUntouched output
+-- nothing was done for such a fault, and nothing is written
+abbrev pub IsNothingShown : (RunFault → Type 0) → Stream → Ended → Type 0
+IsNothingShown Why output ended = (fault : RunFault) × Why fault × (ended ≡ Err fault) × IsUntouched output
 
--- It is said how the disks stood to each other and where the pages are, and they were shown; or a write of that failed; or nothing
--- was shown.
+-- memory was refused
+abbrev pub HasNoMemory : RunFault → Type 0
+HasNoMemory fault = fault ≡ Store NoMemory
+
+-- the files of two disks were had, and no session was opened on both
+abbrev pub IsNotOpened : RunFault → Type 0
+IsNotOpened fault = (d : ClubDisk) × (e : ClubDisk) × (cause : JoinFault) × IsNotJoined file_disk d e cause × (fault ≡ Joining cause)
+
+-- why no pages are shown over two disks: one was not found; or memory was refused; or no session was opened on both
+abbrev pub IsUnopened : RunFault → Type 0
+IsUnopened fault = IsNotFound fault ⊎ (HasNoMemory fault ⊎ IsNotOpened fault)
+
+-- It is said how the disks stood to each other and where the pages are, and they were shown; or a write of that failed.
 abbrev pub ShowsPairAt : Judged → Site → PairServer ClubStore ClubStore → PairServer ClubStore ClubStore → Stream → Ended → Type 0
 ShowsPairAt judged site start last output ended =
     (Takes output (level_line judged.was_level ++ listening_line site.host)
     × ShowsPair file_disk file_disk site judged.disk_first start last ended)
-    ⊎ ((TakesPrefix output (level_line judged.was_level ++ listening_line site.host) × (ended ≡ Err (StreamFault Write)))
-    ⊎ IsNothingShown output ended)
+    ⊎ (TakesPrefix output (level_line judged.was_level ++ listening_line site.host) × (ended ≡ Err (StreamFault Write)))
 
--- the stores of a pair, as pages are shown over it
-pub record IsBegun (v w : ClubStore) (start : PairServer ClubStore ClubStore) : Type 0 where
+-- what the director is told where one of two files is lost
+abbrev pub alone_text : List ℕ → List ℕ → List ℕ
+alone_text kept lost = ((kept ++ codes " alone, ") ++ lost) ++ codes " is lost"
+
+-- what the director is told of two files where the first of the pair is lost: that is the disk, or the copy
+abbrev pub lost_text : Bool → List ℕ → List ℕ → List ℕ
+lost_text true disk copy = alone_text copy disk
+lost_text false disk copy = alone_text disk copy
+
+-- these are the texts of two files, of which the disk was taken first, or the copy
+pub record IsNamed (disk copy : List ℕ) (disk_first : Bool) (names : DiskNames) : Type 0 where
+  pub level : string_bytes names.level ≡ (disk ++ codes " and ") ++ copy
+  pub first_lost : string_bytes names.first_lost ≡ lost_text disk_first disk copy
+  pub second_lost : string_bytes names.second_lost ≡ lost_text (not disk_first) disk copy
+  pub order : names.disk_first ≡ disk_first
+
+-- the stores of a pair and the texts of its files, as pages are shown over it
+pub record IsBegun (names : DiskNames) (v w : ClubStore) (start : PairServer ClubStore ClubStore) : Type 0 where
   pub first : start.first ≡ v
   pub second : start.second ≡ w
+  pub names_are : start.names ≡ names
   pub stopped : start.stopped ≡ false
 
 -- over what pages are shown and where, and over what was written and how it ended
 module _ (texts : PageTexts) (web : WebHost) (output : Stream) (ended : Ended) where
   -- pages were shown over these stores where the words say, with the names of a list or none
-  abbrev pub ShowsJoinedWith : Names → Judged → ClubStore → ClubStore → Type 0
-  ShowsJoinedWith names judged v w = IsNothingShown output ended
+  abbrev pub ShowsJoinedWith : Names → DiskNames → Judged → ClubStore → ClubStore → Type 0
+  ShowsJoinedWith names disks judged v w = IsNothingShown (IsUnshown web) output ended
       ⊎ ((site : Site) × (start : PairServer ClubStore ClubStore) × (last : PairServer ClubStore ClubStore)
-      × (site ≡ site_at texts web (people_text names v.state.configuration.pairs)) × IsBegun v w start
+      × (site ≡ site_at texts web (people_text names v.state.configuration.pairs)) × IsBegun disks v w start
       × ShowsPairAt judged site start last output ended)
 
   -- where the list has another number of pairs that is said, and is the fault
-  abbrev pub ShowsJoined : Names → Judged → ClubStore → ClubStore → Type 0
-  ShowsJoined names judged v w =
-      MatchBool (fits names (length v.state.configuration.pairs)) (ShowsJoinedWith names judged v w) (RefusesList OtherPairs output ended)
+  abbrev pub ShowsJoined : Names → DiskNames → Judged → ClubStore → ClubStore → Type 0
+  ShowsJoined names disks judged v w =
+      MatchBool (fits names (length v.state.configuration.pairs)) (ShowsJoinedWith names disks judged v w)
+      (RefusesList OtherPairs output ended)
 
-  -- so it was, or nothing was shown
-  abbrev pub ShowsOpened : Names → Judged → ClubStore → ClubStore → Type 0
-  ShowsOpened names judged v w = IsNothingShown output ended ⊎ ShowsJoined names judged v w
+  module _ (disks : TwoDisks) where
+    -- so it was, with the texts of the two files, or nothing was shown
+    abbrev pub ShowsOpened : Names → Judged → ClubStore → ClubStore → Type 0
+    ShowsOpened names judged v w = IsNothingShown HasNoMemory output ended
+        ⊎ ((named : DiskNames) × IsNamed disks.disk.now disks.copy.now judged.disk_first named × ShowsJoined names named judged v w)
 
-  -- a session was opened on two disks, and pages were shown over it; or nothing was done
-  abbrev pub ShowsTwo : Names → Type 0
-  ShowsTwo names = IsNothingShown output ended
-      ⊎ ((d : ClubDisk) × (e : ClubDisk) × (judged : Judged) × (v : ClubStore) × (w : ClubStore)
-      × HasJoined file_disk d e judged v w × ShowsJoined names judged v w)
+    -- a session was opened on two disks, and pages were shown over it; or nothing was done
+    abbrev pub ShowsTwo : Names → Type 0
+    ShowsTwo names = IsNothingShown IsUnopened output ended
+        ⊎ ((d : ClubDisk) × (e : ClubDisk) × (judged : Judged) × (v : ClubStore) × (w : ClubStore)
+        × HasJoined file_disk d e judged v w × ShowsOpened names judged v w)
 
-  -- it was done with the names of a list, or what is wrong with the list is the fault
-  abbrev pub ShowsTwoFound : Result (List PairNames) EveningFault → Type 0
-  ShowsTwoFound (Ok names) = (shown : Bor (List PairNames)) × (shown.now ≡ names) × ShowsTwo (Some shown)
-  ShowsTwoFound (Err fault) = RefusesList fault output ended
+    -- it was done with the names of a list, or what is wrong with the list is the fault
+    abbrev pub ShowsTwoFound : Result (List PairNames) EveningFault → Type 0
+    ShowsTwoFound (Ok names) = (shown : Bor (List PairNames)) × (shown.now ≡ names) × ShowsTwo (Some shown)
+    ShowsTwoFound (Err fault) = RefusesList fault output ended
 
-  -- the same with the names of the list in a file, or without any where no file is named
-  abbrev pub ShowsTwoListed : Option (Bor (List ℕ)) → Type 0
-  ShowsTwoListed None = ShowsTwo None
-  ShowsTwoListed (Some file) = (found : Result (List PairNames) EveningFault) × OfFile (ListOf found) × ShowsTwoFound found
+    -- the same with the names of the list in a file, or without any where no file is named
+    abbrev pub ShowsTwoListed : Option (Bor (List ℕ)) → Type 0
+    ShowsTwoListed None = ShowsTwo None
+    ShowsTwoListed (Some file) = (found : Result (List PairNames) EveningFault) × OfFile (ListOf found) × ShowsTwoFound found

@@ -38,7 +38,8 @@ version_line = (((codes "bridge_club " ++ VERSION.now) ++ codes ", proved with "
 -- pages of these texts are shown over the session that a disk holds, or that two do
 abbrev pub ShowsWeb : PageTexts → Bor (List ℕ) → WebWords → Option (Bor (List ℕ)) → Stream → Stream → Ended → Type 0
 ShowsWeb texts disk web None input output ended = WithList (HasListed (listed.Pages texts web.host web.minutes disk Refused)) web.names input output ended
-ShowsWeb texts disk web (Some copy) input output ended = ShowsTwoListed texts web.host output ended web.names × IsUntouched input
+ShowsWeb texts disk web (Some copy) input output ended =
+    ShowsTwoListed texts web.host output ended (record { disk = disk; copy = copy }) web.names × IsUntouched input
 
 -- what `web` shows
 abbrev pub RunsWeb : PageTexts → Bor (List ℕ) → WebWords → Stream → Stream → Ended → Type 0

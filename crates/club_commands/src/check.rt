@@ -5,7 +5,7 @@ ghost use Rattle.arrayvec.specs.ArrayString.{array_string_len};
 ghost use Rattle.line_text.specs.Streams.{stream};
 ghost use Rattle.sector_disk.specs.File.{file_disk};
 ghost use Rattle.session_store.specs.Form.{digit};
-ghost use Rattle.club_commands.specs.Checked.{with_said, with_round, with_standing, with_state, no_older_text, SaysOlder, Checks};
+ghost use Rattle.club_commands.specs.Checked.{with_said, with_round, with_standing, with_state, no_older_text, SaysOlder, SaysRefused, Checks};
 ghost use Rattle.club_commands.specs.Ended.{Writes};
 
 use crate::counts::{boards_dealt, plays_done};
@@ -162,6 +162,25 @@ fn tell_older<D: SectorDisk, W: Write>(
     }
 }
 
+/// Says why a disk, which was read, gave nothing. At a damaged sector, which is the fault then, it says what the older snapshot
+/// holds.
+pub fn check_refused<D: SectorDisk, W: Write>(
+    alloc: Global,
+    disk: &mut D,
+    fault: StoreFault,
+    output: &mut W,
+) -> Result<(), RunFault>
+    ensures { SaysRefused D.disk disk.old disk.new fault (stream W.contents output.old output.new) result }
+{
+    match fault {
+        StoreFault::Damaged(_) => {
+            tell_older(alloc, disk, output)?;
+            Err(RunFault::Store(fault))
+        }
+        _ => Err(RunFault::Store(fault)),
+    }
+}
+
 /// Says what a disk holds; nothing is written to it. At a damaged sector, which is the fault then, it says what the older
 /// snapshot holds.
 pub fn check_disk<D: SectorDisk, W: Write>(
@@ -173,11 +192,7 @@ pub fn check_disk<D: SectorDisk, W: Write>(
 {
     match read_state::<D, Session>(alloc, disk) {
         Ok(found) => write_output(output, seen_text("", &found).as_str()),
-        Err(StoreFault::Damaged(sector)) => {
-            tell_older(alloc, disk, output)?;
-            Err(RunFault::Store(StoreFault::Damaged(sector)))
-        }
-        Err(fault) => Err(RunFault::Store(fault)),
+        Err(fault) => check_refused(alloc, disk, fault, output),
     }
 }
 

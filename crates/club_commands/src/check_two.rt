@@ -5,7 +5,7 @@ ghost use Rattle.line_text.specs.Streams.{stream};
 ghost use Rattle.club_commands.specs.CheckedTwo.{both_text, judged_line, newer_line, ChecksTwo, EndsJudged, HasCheckedTwo, RunsCheck, StopsAlone, TellsJudged, TellsTwo};
 ghost use Rattle.club_commands.specs.Ended.{WritesAndStops};
 
-use crate::check::{check_disk, seen_text};
+use crate::check::{check_refused, seen_text};
 use crate::copied::TwoDisks;
 use crate::fault::RunFault;
 use crate::machine::Machine;
@@ -126,7 +126,7 @@ fn tell_alone<W: Write>(
     )
 }
 
-/// Says what two disks hold and how they stand to each other; where the first gives nothing, what is said of it alone.
+/// Says what two disks hold and how they stand to each other; where the first gives nothing, why.
 fn check_both<D: SectorDisk, W: Write>(
     alloc: Global,
     disk: &mut D,
@@ -136,7 +136,7 @@ fn check_both<D: SectorDisk, W: Write>(
     ensures { ChecksTwo D.disk disk.old copy.old disk.new copy.new (stream W.contents output.old output.new) result }
 {
     match read_state::<D, Session>(alloc, disk) {
-        Err(_) => check_disk(alloc, disk, output),
+        Err(fault) => check_refused(alloc, disk, fault, output),
         Ok(ours) => match read_state::<D, Session>(alloc, copy) {
             Err(fault) => tell_alone(&ours, fault, output),
             Ok(theirs) => tell_two(alloc, ours, theirs, output),

@@ -1,10 +1,10 @@
 //! The command `web` with a second disk in a file: both files are locked for as long as pages are shown, which no clause can say
 //! and tests show.
-ghost use Rattle.std.specs.Prelude.{◌≡◌, None};
+ghost use Rattle.std.specs.Prelude.{◌≡◌, ◌++◌, None, IfOk, string_bytes};
 ghost use Rattle.line_text.specs.Streams.{stream};
 ghost use Rattle.evening_commands.specs.NamesView.{list_seen};
 ghost use Rattle.session_pair.specs.Joining.{IsOne};
-ghost use Rattle.club_commands.specs.PairWeb.{ShowsOpened, ShowsTwo, ShowsTwoFound, ShowsTwoListed};
+ghost use Rattle.club_commands.specs.PairWeb.{alone_text, IsNamed, ShowsOpened, ShowsTwo, ShowsTwoFound, ShowsTwoListed};
 
 use crate::fault::RunFault;
 use crate::listed::refuse_list;
@@ -34,25 +34,38 @@ pub struct TwoDisks<'a> {
     pub copy: &'a str,
 }
 
+/// Two names with these words between them.
+fn two_names(alloc: Global, first: &str, words: &str, second: &str) -> Result<String, AllocError>
+    ensures { IfOk result (λ text. string_bytes text ≡ (first.now ++ words.now) ++ second.now) }
+{
+    let mut text = String::from_str(alloc, first)?;
+    text.push_str(words)?;
+    text.push_str(second)?;
+    Ok(text)
+}
+
+/// That a file is kept alone, and the other lost.
+fn alone_text(alloc: Global, kept: &str, lost: &str) -> Result<String, AllocError>
+    ensures { IfOk result (λ text. string_bytes text ≡ alone_text kept.now lost.now) }
+{
+    let mut text = two_names(alloc, kept, " alone, ", lost)?;
+    text.push_str(" is lost")?;
+    Ok(text)
+}
+
 /// What the director and standard error are told of the disks, of which the one was taken first or the other.
-fn disk_names(
-    alloc: Global,
-    disks: TwoDisks<'_>,
-    disk_first: bool,
-) -> Result<DiskNames, AllocError> {
-    let TwoDisks { disk, copy } = disks;
-    let disk_lost = format!(in alloc; "{copy} alone, {disk} is lost")?;
-    let copy_lost = format!(in alloc; "{disk} alone, {copy} is lost")?;
-    let level = format!(in alloc; "{disk} and {copy}")?;
-    let (first_lost, second_lost) = if disk_first {
-        (disk_lost, copy_lost)
+fn disk_names(alloc: Global, disks: TwoDisks<'_>, disk_first: bool) -> Result<DiskNames, AllocError>
+    ensures { IfOk result (IsNamed disks.entry.disk.now disks.entry.copy.now disk_first) }
+{
+    let (first, second) = if disk_first {
+        (disks.disk, disks.copy)
     } else {
-        (copy_lost, disk_lost)
+        (disks.copy, disks.disk)
     };
     Ok(DiskNames {
-        level,
-        first_lost,
-        second_lost,
+        level: two_names(alloc, disks.disk, " and ", disks.copy)?,
+        first_lost: alone_text(alloc, second, first)?,
+        second_lost: alone_text(alloc, first, second)?,
         disk_first,
     })
 }
@@ -68,8 +81,8 @@ fn show_opened<N: Host, W: Write>(
     output: &mut W,
 ) -> Result<(), RunFault>
     requires works { IsOne joined.first joined.second }
-    ensures { ShowsOpened shown.now.texts shown.now.host (stream W.contents output.old output.new) result shown.now.names
-        joined.judged joined.first joined.second }
+    ensures { ShowsOpened shown.now.texts shown.now.host (stream W.contents output.old output.new) result disks.entry
+        shown.now.names joined.judged joined.first joined.second }
 {
     let Ok(cache) = Cache::new(alloc, CACHED_ENDINGS) else {
         return Err(RunFault::Store(StoreFault::NoMemory));
@@ -91,7 +104,7 @@ fn show_on<N: Host, W: Write>(
     copy: ClubDisk,
     output: &mut W,
 ) -> Result<(), RunFault>
-    ensures { ShowsTwo shown.now.texts shown.now.host (stream W.contents output.old output.new) result shown.now.names }
+    ensures { ShowsTwo shown.now.texts shown.now.host (stream W.contents output.old output.new) result disks.entry shown.now.names }
 {
     match join_disks(alloc, disk, copy) {
         Err(fault) => Err(RunFault::Joining(fault)),
@@ -109,7 +122,7 @@ fn show_found<N: Host, W: Write>(
     copy: Result<ClubDisk, DiskFault>,
     output: &mut W,
 ) -> Result<(), RunFault>
-    ensures { ShowsTwo shown.now.texts shown.now.host (stream W.contents output.old output.new) result shown.now.names }
+    ensures { ShowsTwo shown.now.texts shown.now.host (stream W.contents output.old output.new) result disks.entry shown.now.names }
 {
     let Ok(disk) = disk else {
         return Err(RunFault::Store(StoreFault::Disk));
@@ -128,7 +141,7 @@ fn show_two<S: Machine, W: Write>(
     disks: TwoDisks<'_>,
     output: &mut W,
 ) -> Result<(), RunFault>
-    ensures { ShowsTwo shown.now.texts shown.now.host (stream W.contents output.old output.new) result shown.now.names }
+    ensures { ShowsTwo shown.now.texts shown.now.host (stream W.contents output.old output.new) result disks.entry shown.now.names }
 {
     let lock = lock_for(rt, alloc, disks.disk, Access::Write);
     let copy_lock = lock_for(rt, alloc, disks.copy, Access::Write);
@@ -146,7 +159,7 @@ fn show_two_found<S: Machine, W: Write>(
     found: Result<Names, EveningFault>,
     output: &mut W,
 ) -> Result<(), RunFault>
-    ensures { ShowsTwoFound shown.now.texts shown.now.host (stream W.contents output.old output.new) result (list_seen found) }
+    ensures { ShowsTwoFound shown.now.texts shown.now.host (stream W.contents output.old output.new) result disks.entry (list_seen found) }
 {
     match found {
         Ok(names) => {
@@ -171,7 +184,7 @@ pub fn show_copied<S: Machine, W: Write>(
     output: &mut W,
 ) -> Result<(), RunFault>
     requires { shown.now.names ≡ None }
-    ensures { ShowsTwoListed shown.now.texts shown.now.host (stream W.contents output.old output.new) result names.entry }
+    ensures { ShowsTwoListed shown.now.texts shown.now.host (stream W.contents output.old output.new) result disks.entry names.entry }
 {
     match names {
         None => show_two(rt, alloc, shown, disks, output),

@@ -1,11 +1,11 @@
 //! Pages over a session that two disks keep, as the command `web` shows them with `--copy`.
-ghost use Rattle.std.specs.Prelude.{◌≡◌, ◌≤◌, ◌++◌, true, length, string_bytes, IfOk, IfSome};
+ghost use Rattle.std.specs.Prelude.{◌≡◌, ◌⊎◌, ◌≤◌, ◌++◌, true, length, string_bytes, IfOk, IfSome};
 ghost use Rattle.line_text.specs.Streams.{stream};
 ghost use Rattle.session_pair.specs.Joining.{IsOne};
 ghost use Rattle.pair_pages.specs.Pair.{are_settled};
 ghost use Rattle.table_pages.specs.Site.{site_of};
-ghost use Rattle.club_commands.specs.Web.{listening_line};
-ghost use Rattle.club_commands.specs.PairWeb.{lost_disk, ended_standing, pair_ended_by, level_line, value_of, ShowsPair, ShowsPairAt, ShowsJoined, ShowsJoinedWith};
+ghost use Rattle.club_commands.specs.Web.{listening_line, IsUnshown};
+ghost use Rattle.club_commands.specs.PairWeb.{lost_disk, ended_standing, pair_ended_by, level_line, value_of, IsNothingShown, ShowsPair, ShowsPairAt, ShowsJoined, ShowsJoinedWith};
 
 use crate::fault::{LostDisk, RunFault, SystemFault};
 use crate::listed::refuse_list;
@@ -138,7 +138,8 @@ fn show_pair_at<N: Host, W: Write, K: Seconds>(
     output: &mut W,
 ) -> Result<(), RunFault>
     requires line { line.now ≡ level_line judged.was_level ++ listening_line (string_bytes pages.old.names.host) }
-    ensures { ShowsPairAt judged (site_of pages.old.texts pages.old.names pages.old.people.items)
+    ensures { IsNothingShown (IsUnshown host.now) (stream W.contents output.old output.new) result
+        ⊎ ShowsPairAt judged (site_of pages.old.texts pages.old.names pages.old.people.items)
         pages.old.server pages.new.server (stream W.contents output.old output.new) result }
 {
     match listen_at(rt, host) {
@@ -187,7 +188,7 @@ fn show_joined_with<N: Host, W: Write>(
     requires works { IsOne joined.first joined.second }
     requires few { IfSome shown.now.names (λ names. length names.now ≤ 24) }
     ensures { ShowsJoinedWith shown.now.texts shown.now.host (stream W.contents output.old output.new) result shown.now.names
-        joined.judged joined.first joined.second }
+        disks joined.judged joined.first joined.second }
 {
     let Joined {
         first,
@@ -227,7 +228,7 @@ pub fn show_joined<N: Host, W: Write>(
 ) -> Result<(), RunFault>
     requires works { IsOne joined.first joined.second }
     ensures { ShowsJoined shown.now.texts shown.now.host (stream W.contents output.old output.new) result shown.now.names
-        joined.judged joined.first joined.second }
+        disks joined.judged joined.first joined.second }
 {
     if has_pairs(shown.names, joined.first.state().config()) {
         return show_joined_with(rt, alloc, shown, joined, disks, cache, desk, output);

@@ -6,10 +6,10 @@ use Rattle.club_commands.proofs.check_two.check_both.Goals as goal
 pub returns-in-Err : goal.returns-in-Err
 returns-in-Err g c =
     let read = c.read_state.new.disk in
-    let cause = c.in-Err.field-0 in
+    let cause = c.in-Err.fault in
     let refused = refuses_reading g.D.SectorDisk.disk header_in c.args.disk.now read c.read_state.result cause c.in-Err.is
     c.read_state.ensures.quiet c.read_state.ensures.too_small c.in-Err.ensures.unseen in
-    inl (read, cause, c.read_state.ensures.quiet, refused, refl, c.check_disk.ensures)
+    inl (refl, (read, cause, refused, c.check_refused.ensures))
 
 pub returns-in-Err-read_state : goal.returns-in-Err-read_state
 returns-in-Err-read_state g c =

@@ -13,13 +13,18 @@ pub returns : goal.returns
 returns g c =
     let pages = c.pages_over-pages.result in
     let shown = c.args.shown.now in
-    joined_shown shown.texts shown.host shown.names c.args.joined.judged c.args.joined.first c.args.joined.second
+    joined_shown shown.texts shown.host shown.names c.args.disks c.args.joined.judged c.args.joined.first c.args.joined.second
     (site_of pages.texts pages.names pages.people.items) c.new-server.result pages.server c.show_pair_at.new.pages.server
     (stream g.W.Write.contents c.args.output.now c.show_pair_at.new.output) c.show_pair_at.result
     (made_site shown.host pages.texts shown.texts pages.names c.in-Ok.names _ _ c.pages_over-pages.ensures.names c.pages_over-pages.ensures.texts
     (ap (λ people. people.items) c.pages_over-pages.ensures.people ∙ c.in-Ok-people_of.ensures) c.in-Ok.ensures.host c.in-Ok.ensures.alias)
     c.pages_over-pages.ensures.server
-    (record { first = c.new-server.ensures.first; second = c.new-server.ensures.second; stopped = c.new-server.ensures.begun })
+    (record {
+      first = c.new-server.ensures.first;
+      second = c.new-server.ensures.second;
+      names_are = c.new-server.ensures.names;
+      stopped = c.new-server.ensures.begun;
+    })
     c.show_pair_at.ensures
 
 pub pages_over-pages-requires : goal.pages_over-pages-requires

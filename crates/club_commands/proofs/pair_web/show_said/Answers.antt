@@ -5,4 +5,4 @@ pub returns-in-Ok : goal.returns-in-Ok
 returns-in-Ok g c = inl (rw (← c.requires.line) c.in-Ok.ensures.0, c.show_pair.ensures)
 
 pub returns-in-Err : goal.returns-in-Err
-returns-in-Err g c = inr (inl (rw (← c.requires.line) c.in-Err.ensures.0, ap Err c.in-Err.ensures.1))
+returns-in-Err g c = inr (rw (← c.requires.line) c.in-Err.ensures.0, ap Err c.in-Err.ensures.1)
