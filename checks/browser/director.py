@@ -547,9 +547,9 @@ def main():
             evening.server.kill()
             are_shuffled(page, evening)
             assert shown == printed(evening), f"{shown} in place of {printed(evening)}"
-            assert text == told_by(evening.disk, "results"), "the results shown are not those of the command"
+            assert text == told_by(evening.disk, "results", "--no-analysis"), "the results shown are not those of the command"
             other = by_script(evening, work)
-            for words in [["rank"], ["pbn"], ["results"], ["results", "--html"]]:
+            for words in [["rank"], ["pbn"], ["results", "--no-analysis"], ["results", "--no-analysis", "--html"]]:
                 assert told_by(evening.disk, *words) == told_by(other, *words), f"{words}: script makes something else of the lines"
         finally:
             evening.browser.close()

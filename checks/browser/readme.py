@@ -52,7 +52,7 @@ def results_picture(work):
     run("format", disk, os.path.join(EXAMPLES, "rows.txt"))
     run("script", disk, text="\n".join(" ".join(line) for line in lines()) + "\n")
     with open(page, "w", encoding="utf-8") as file:
-        file.write(run("results", disk, "--html"))
+        file.write(run("results", disk, "--html", "--no-analysis"))
     browser = Browser(os.path.join(work, "browser"))
     window = Window(browser, f"file://{page}", 1024, 768)
     time.sleep(1)

@@ -73,7 +73,7 @@ class Club:
     def plays(self, disk):
         """Each play with a score, as the command `results` prints it: board, pairs, score and what both sides gain."""
         board = 0
-        for line in self.run("results", disk).splitlines():
+        for line in self.run("results", disk, "--no-analysis").splitlines():
             words = line.split()
             if re.fullmatch(r"Board \d+", line):
                 board = int(words[1])

@@ -12,4 +12,6 @@ pub mod SuitLetters
 pub mod FourSuits
 pub mod PageParts
 pub mod HtmlParts
+pub mod NoteParts
+pub mod CostsFound
 pub mod Shown

@@ -7,6 +7,7 @@ use Rattle.line_text.proofs.Streams.{takes_prefix, prefix_longer, written_error}
 use Rattle.session_rules.specs.State.{SessionValue, deal_on}
 use Rattle.page_layout.specs.declared.format.Format.{Format}
 use Rattle.bridge_results.specs.declared.traveller.BoardLine.{BoardLine}
+use Rattle.bridge_results.specs.MakeableText.{MakeableBoards, makeable_on}
 use Rattle.bridge_results.specs.BoardText.{board_text}
 use Rattle.bridge_results.specs.ResultsText.{played_text}
 
@@ -16,9 +17,10 @@ then_failed a b c xs ys zs result is first second =
     written_error (between a c) (xs ++ (ys ++ zs)) result is (takes_prefix a b c xs (ys ++ zs) first (prefix_longer b c ys zs second))
 
 -- the text of a board with some line
-pub played_some : (format : Format) (s : SessionValue) (board : ℕ) (lines : List BoardLine) → (length lines == 0) ≡ false → board_text format s.configuration.scoring board (deal_on s.deals board) lines ≡ played_text format s board lines
-played_some format s board [] none = cc
-played_some format s board (line ∷ lines) some = refl
+pub played_some : (format : Format) (analysis : MakeableBoards) (s : SessionValue) (board : ℕ) (lines : List BoardLine) → (length lines == 0) ≡ false
+    → board_text format s.configuration.scoring board (deal_on s.deals board) (makeable_on analysis board) lines ≡ played_text format analysis s board lines
+played_some format analysis s board [] none = cc
+played_some format analysis s board (line ∷ lines) some = refl
 
 -- what holds of what is there holds of what is made of it
 pub mapped_some : {X Y : Type 0} (given : Option X) (f : X → Y) (Q : Y → Type 0) → IfSome given (λ x. Q (f x)) → IfSome (option_map f given) Q

@@ -16,6 +16,8 @@ use Rattle.bridge_results.specs.declared.frequency.Frequency.{Frequency}
 use Rattle.bridge_results.specs.declared.traveller.BoardLine.{BoardLine}
 use Rattle.bridge_results.specs.declared.pages.columns.TheConstants.{LINE_COLUMNS, FREQUENCY_COLUMNS}
 use Rattle.bridge_results.specs.Diagram.{diagram_text}
+use Rattle.bridge_results.specs.declared.makeable.Makeable.{Makeable}
+use Rattle.bridge_results.specs.MakeableText.{known_text}
 use Rattle.bridge_results.specs.Frequencies.{frequencies_of}
 use Rattle.bridge_results.specs.PlayCells.{contract_cell, declarer_cell, tricks_cell, lead_cell, score_cell, gain_cell, line_score}
 
@@ -90,7 +92,11 @@ abbrev pub board_tables : Format → Scoring → List BoardLine → List ℕ
 board_tables format scoring lines =
     traveller_text format scoring lines ++ (frequencies_text format scoring (frequencies_of lines) ++ section_end format)
 
--- A board with the lines of its traveller: dealer, vulnerability, hands, traveller and frequencies.
-abbrev pub board_text : Format → Scoring → ℕ → Option (List ℕ) → List BoardLine → List ℕ
-board_text format scoring board hands lines =
-    board_head format board ++ (hands_text format hands ++ board_tables format scoring lines)
+-- the hands of a board and what could be made, if it is known
+abbrev pub deal_text : Format → ℕ → Option (List ℕ) → Option Makeable → List ℕ
+deal_text format board hands known = hands_text format hands ++ known_text format board known
+
+-- A board with the lines of its traveller: dealer, vulnerability, hands, what could be made, traveller and frequencies.
+abbrev pub board_text : Format → Scoring → ℕ → Option (List ℕ) → Option Makeable → List BoardLine → List ℕ
+board_text format scoring board hands known lines =
+    board_head format board ++ (deal_text format board hands known ++ board_tables format scoring lines)

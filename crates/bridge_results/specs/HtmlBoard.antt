@@ -1,4 +1,4 @@
--- A board in HTML: its hands, its traveller, its frequencies, and how each table played it.
+-- A board in HTML: its hands and what could be made, its traveller, its frequencies, and how each table played it.
 use Rattle.std.specs.Prelude.{ℕ, Bool, true, false, List, [], ◌∷◌, ◌++◌, codes, flat_map, ℤ}
 use Rattle.std.specs.Option.{option_map}
 use Rattle.std.specs.Fmt.{decimal}
@@ -17,7 +17,10 @@ use Rattle.bridge_results.specs.declared.traveller.BoardLine.{BoardLine}
 use Rattle.bridge_results.specs.declared.html.columns.TheConstants.{SHARE_LINE_COLUMNS, SUM_LINE_COLUMNS}
 use Rattle.bridge_results.specs.Frequencies.{frequencies_of}
 use Rattle.bridge_results.specs.PlayCells.{declarer_cell, score_cell, line_score}
-use Rattle.bridge_results.specs.BoardText.{board_words, deal_words, hands_text, side_gain, frequencies_text}
+use Rattle.bridge_results.specs.declared.analysis.PlayCosts.{PlayCosts}
+use Rattle.bridge_results.specs.MakeableText.{MakeableBoards, makeable_on}
+use Rattle.bridge_results.specs.Costs.{Analysis, costs_at}
+use Rattle.bridge_results.specs.BoardText.{board_words, deal_words, deal_text, side_gain, frequencies_text}
 use Rattle.bridge_results.specs.ShownPairs.{Names}
 use Rattle.bridge_results.specs.HtmlCells.{result_cell, perhaps_card, percent_cell}
 use Rattle.bridge_results.specs.HtmlLinks.{board_target, pair_target, play_target}
@@ -93,26 +96,26 @@ html_tables scoring available lines =
     html_traveller scoring available lines ++ frequencies_text Html scoring (frequencies_of lines)
 
 -- how the play of a line went
-abbrev pub line_course : Names → SessionValue → BoardLine → List ℕ
-line_course names s line = course_on names s line.play
+abbrev pub line_course : Names → List PlayCosts → SessionValue → BoardLine → List ℕ
+line_course names plays s line = course_on names (costs_at plays line.play) s line.play
 
 -- how each table played the board
-abbrev pub courses_html : Names → SessionValue → List BoardLine → List ℕ
-courses_html names s lines = flat_map (line_course names s) lines
+abbrev pub courses_html : Names → List PlayCosts → SessionValue → List BoardLine → List ℕ
+courses_html names plays s lines = flat_map (line_course names plays s) lines
 
--- the hands of a board, once it is dealt
-abbrev pub html_hands : SessionValue → ℕ → List ℕ
-html_hands s board = hands_text Html (deal_on s.deals board)
+-- the hands of a board, once it is dealt, and what could be made, if it is known
+abbrev pub html_hands : MakeableBoards → SessionValue → ℕ → List ℕ
+html_hands boards s board = deal_text Html board (deal_on s.deals board) (makeable_on boards board)
 
--- the heading and the hands of a board
-abbrev pub html_deal : SessionValue → ℕ → List ℕ
-html_deal s board = board_start board ++ html_hands s board
+-- the heading of a board, and its hands with what could be made
+abbrev pub html_deal : MakeableBoards → SessionValue → ℕ → List ℕ
+html_deal boards s board = board_start board ++ html_hands boards s board
 
 -- the tables of a board, and how it was played
-abbrev pub html_played : Names → SessionValue → ℕ → List BoardLine → List ℕ
-html_played names s board lines =
-    html_tables s.configuration.scoring (available_on s board) lines ++ (courses_html names s lines ++ section_end Html)
+abbrev pub html_played : Names → List PlayCosts → SessionValue → ℕ → List BoardLine → List ℕ
+html_played names plays s board lines =
+    html_tables s.configuration.scoring (available_on s board) lines ++ (courses_html names plays s lines ++ section_end Html)
 
--- A board: its dealer, vulnerability and hands, its traveller and frequencies, and how each table played it.
-abbrev pub board_html : Names → SessionValue → ℕ → List BoardLine → List ℕ
-board_html names s board lines = html_deal s board ++ html_played names s board lines
+-- A board: its dealer, vulnerability and hands, what could be made, its traveller and frequencies, and how each table played it.
+abbrev pub board_html : Names → Analysis → SessionValue → ℕ → List BoardLine → List ℕ
+board_html names analysis s board lines = html_deal analysis.boards s board ++ html_played names analysis.plays s board lines

@@ -28,7 +28,8 @@ use Rattle.bridge_results.specs.declared.play.TablePlay.{TablePlay}
 use Rattle.bridge_results.specs.declared.html.columns.TheConstants.{CALL_COLUMNS, TRICK_COLUMNS}
 use Rattle.bridge_results.specs.PlayCells.{declarer_cell}
 use Rattle.bridge_results.specs.ShownPairs.{Names, shown_pair}
-use Rattle.bridge_results.specs.HtmlCells.{result_cell, perhaps_card}
+use Rattle.bridge_results.specs.HtmlCells.{result_cell}
+use Rattle.bridge_results.specs.Costs.{marked_card}
 use Rattle.bridge_results.specs.HtmlLinks.{play_target}
 
 -- ---- the auction
@@ -79,13 +80,13 @@ abbrev pub winner_cell : Contract → List ℕ → ℕ → List ℕ
 winner_cell contract cards trick =
     if nat_lt trick (whole_tricks cards) then seat_letter (leader_of contract cards (trick + 1)) ∷ [] else []
 
--- a trick, counted from 0: its number from 1, who led, the four cards, and who won it
-abbrev pub trick_row : Contract → List ℕ → ℕ → List ℕ
-trick_row contract cards trick =
+-- a trick, counted from 0: its number from 1, who led, the four cards with what they cost, and who won it
+abbrev pub trick_row : Contract → List ℕ → List ℕ → ℕ → List ℕ
+trick_row contract cards costs trick =
     linked_row TRICK_COLUMNS ([] ∷ [] ∷ [] ∷ [] ∷ [] ∷ [] ∷ [] ∷ [])
-    (decimal (trick + 1) ∷ (seat_letter (leader_of contract cards trick) ∷ []) ∷ perhaps_card (slice_get cards (4 * trick))
-    ∷ perhaps_card (slice_get cards (4 * trick + 1)) ∷ perhaps_card (slice_get cards (4 * trick + 2))
-    ∷ perhaps_card (slice_get cards (4 * trick + 3)) ∷ winner_cell contract cards trick ∷ [])
+    (decimal (trick + 1) ∷ (seat_letter (leader_of contract cards trick) ∷ []) ∷ marked_card cards costs (4 * trick)
+    ∷ marked_card cards costs (4 * trick + 1) ∷ marked_card cards costs (4 * trick + 2)
+    ∷ marked_card cards costs (4 * trick + 3) ∷ winner_cell contract cards trick ∷ [])
 
 -- what stands above the tricks
 unfoldable pub tricks_head : List ℕ
@@ -95,8 +96,8 @@ tricks_head =
     (codes "Trick" ∷ codes "Led by" ∷ codes "1st" ∷ codes "2nd" ∷ codes "3rd" ∷ codes "4th" ∷ codes "Won by" ∷ [])
 
 -- the tricks, the last of which may have fewer than four cards
-abbrev pub trick_rows : Contract → List ℕ → List ℕ
-trick_rows contract cards = flat_map (trick_row contract cards) (range_with_len 0 (fours (length cards)))
+abbrev pub trick_rows : Contract → List ℕ → List ℕ → List ℕ
+trick_rows contract cards costs = flat_map (trick_row contract cards costs) (range_with_len 0 (fours (length cards)))
 
 -- who claimed how many of the tricks that were left (Law 68)
 abbrev pub claim_words : Claim → List ℕ
@@ -116,12 +117,12 @@ unfoldable pub play_end : PlayValue → List ℕ
 play_end play = table_end Html ++ claim_html (agreed_claim play)
 
 -- The play: a row for each trick, and the claim.
-abbrev pub play_html : PlayValue → List ℕ
-play_html play = tricks_head ++ (trick_rows play.contract play.cards ++ play_end play)
+abbrev pub play_html : List ℕ → PlayValue → List ℕ
+play_html costs play = tricks_head ++ (trick_rows play.contract play.cards costs ++ play_end play)
 
 -- the same, once there was a contract
-abbrev pub play_part : Option PlayValue → List ℕ
-play_part play = option_map_or play_html play []
+abbrev pub play_part : List ℕ → Option PlayValue → List ℕ
+play_part costs play = option_map_or (play_html costs) play []
 
 -- ---- what opens
 
@@ -153,12 +154,12 @@ abbrev pub summary_html : Names → List Pair → TablePlay → List ℕ
 summary_html names pairs play = first_names names pairs play ++ (second_names names pairs play ++ summary_end play)
 
 -- the auction and the play
-abbrev pub calls_and_cards : TablePlay → AuctionValue → Option PlayValue → List ℕ
-calls_and_cards play auction played = auction_html play auction ++ (play_part played ++ codes "</details>\n")
+abbrev pub calls_and_cards : List ℕ → TablePlay → AuctionValue → Option PlayValue → List ℕ
+calls_and_cards costs play auction played = auction_html play auction ++ (play_part costs played ++ codes "</details>\n")
 
 -- How a board was played: the pairs and what came of it, and where that is opened, the auction and the play.
-abbrev pub course_html : Names → List Pair → TablePlay → AuctionValue → Option PlayValue → List ℕ
-course_html names pairs play auction played = summary_html names pairs play ++ calls_and_cards play auction played
+abbrev pub course_html : Names → List ℕ → List Pair → TablePlay → AuctionValue → Option PlayValue → List ℕ
+course_html names costs pairs play auction played = summary_html names pairs play ++ calls_and_cards costs play auction played
 
 -- ---- the record that is shown
 
@@ -184,14 +185,14 @@ abbrev pub shown_record : SessionValue → TablePlay → Option PlainRecord
 shown_record s play = option_and_then (record_of s) (shown_id s.configuration play)
 
 -- how the play went by its record
-abbrev pub recorded_html : Names → SessionValue → TablePlay → PlainRecord → List ℕ
-recorded_html names s play plain =
-    course_html names s.configuration.pairs play (bidding_of plain) (play_of (hands_on s.deals plain.board) plain)
+abbrev pub recorded_html : Names → List ℕ → SessionValue → TablePlay → PlainRecord → List ℕ
+recorded_html names costs s play plain =
+    course_html names costs s.configuration.pairs play (bidding_of plain) (play_of (hands_on s.deals plain.board) plain)
 
 -- how the play went by that record, if there is one
-abbrev pub found_html : Names → SessionValue → TablePlay → Option PlainRecord → List ℕ
-found_html names s play found = option_map_or (recorded_html names s play) found []
+abbrev pub found_html : Names → List ℕ → SessionValue → TablePlay → Option PlainRecord → List ℕ
+found_html names costs s play found = option_map_or (recorded_html names costs s play) found []
 
 -- How the play of a line went, as the session's record of that table and board tells.
-abbrev pub course_on : Names → SessionValue → TablePlay → List ℕ
-course_on names s play = found_html names s play (shown_record s play)
+abbrev pub course_on : Names → List ℕ → SessionValue → TablePlay → List ℕ
+course_on names costs s play = found_html names costs s play (shown_record s play)

@@ -22,6 +22,7 @@ use Rattle.bridge_results.specs.ShownPairs.{Names, shown_pair}
 use Rattle.bridge_results.specs.EventText.{event_text}
 use Rattle.bridge_results.specs.RankingText.{ranked_titles}
 use Rattle.bridge_results.specs.HtmlLinks.{pair_target}
+use Rattle.bridge_results.specs.Costs.{Analysis, costs_note}
 use Rattle.bridge_results.specs.HtmlBoard.{board_html}
 use Rattle.bridge_results.specs.HtmlCard.{standing_of, card_html}
 
@@ -81,25 +82,25 @@ abbrev pub html_front : ConfigValue → Names → Option (List Ranked) → Optio
 html_front configuration names first second = html_event configuration ++ html_rankings configuration names first second
 
 -- the text of a board with these lines, if it was played
-abbrev pub played_html : Names → SessionValue → ℕ → List BoardLine → List ℕ
-played_html names s board [] = []
-played_html names s board (line ∷ lines) = board_html names s board (line ∷ lines)
+abbrev pub played_html : Names → Analysis → SessionValue → ℕ → List BoardLine → List ℕ
+played_html names analysis s board [] = []
+played_html names analysis s board (line ∷ lines) = board_html names analysis s board (line ∷ lines)
 
 -- a board, if it was played
-abbrev pub html_board_on : Names → SessionValue → ℕ → List ℕ
-html_board_on names s board = played_html names s board (traveller s board)
+abbrev pub html_board_on : Names → Analysis → SessionValue → ℕ → List ℕ
+html_board_on names analysis s board = played_html names analysis s board (traveller s board)
 
 -- the boards that were played, of boards 1 to 36
-unfoldable pub html_boards : Names → SessionValue → List ℕ
-html_boards names s = flat_map (html_board_on names s) (range_with_len 1 36)
+unfoldable pub html_boards : Names → Analysis → SessionValue → List ℕ
+html_boards names analysis s = flat_map (html_board_on names analysis s) (range_with_len 1 36)
 
 -- what begins the sheet of the boards
 unfoldable pub boards_start : List ℕ
 boards_start = codes "<section class=\"sheet\" id=\"boards\">\n<h2>Boards</h2>\n"
 
--- the sheet of the boards
-abbrev pub html_board_sheet : Names → SessionValue → List ℕ
-html_board_sheet names s = boards_start ++ (html_boards names s ++ section_end Html)
+-- the sheet of the boards: what marks behind cards say, and the boards
+abbrev pub html_board_sheet : Names → Analysis → SessionValue → List ℕ
+html_board_sheet names analysis s = boards_start ++ (costs_note analysis.plays ++ (html_boards names analysis s ++ section_end Html))
 
 -- the card of a pair
 abbrev pub html_card_on : Names → SessionValue → Option (List Ranked) → Option (List Ranked) → ℕ → List ℕ
@@ -120,6 +121,6 @@ abbrev pub html_card_sheet : Names → SessionValue → Option (List Ranked) →
 html_card_sheet names s first second = cards_start ++ (html_cards names s first second ++ (section_end Html ++ page_end Html))
 
 -- The page: the event, the rankings, the boards, and the score cards.
-abbrev pub page_html : Names → SessionValue → Option (List Ranked) → Option (List Ranked) → List ℕ
-page_html names s first second =
-    html_front s.configuration names first second ++ (html_board_sheet names s ++ html_card_sheet names s first second)
+abbrev pub page_html : Names → Analysis → SessionValue → Option (List Ranked) → Option (List Ranked) → List ℕ
+page_html names analysis s first second =
+    html_front s.configuration names first second ++ (html_board_sheet names analysis s ++ html_card_sheet names s first second)

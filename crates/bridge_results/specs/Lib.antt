@@ -10,10 +10,12 @@ pub mod EventText
 pub mod ShownPairs
 pub mod RankingText
 pub mod Diagram
+pub mod MakeableText
 pub mod BoardText
 pub mod CardText
 pub mod HtmlLinks
 pub mod HtmlCells
+pub mod Costs
 pub mod HtmlCourse
 pub mod HtmlRecord
 pub mod HtmlBoard

@@ -20,6 +20,8 @@ use Rattle.bridge_results.specs.ScoreCard.{score_card_of}
 use Rattle.bridge_results.specs.ShownPairs.{Names}
 use Rattle.bridge_results.specs.EventText.{event_text}
 use Rattle.bridge_results.specs.RankingText.{field_text}
+use Rattle.bridge_results.specs.MakeableText.{MakeableBoards, makeable_on}
+use Rattle.bridge_results.specs.Costs.{Analysis, no_analysis}
 use Rattle.bridge_results.specs.BoardText.{board_text}
 use Rattle.bridge_results.specs.CardText.{score_card_text}
 use Rattle.bridge_results.specs.HtmlPage.{page_html}
@@ -39,22 +41,22 @@ abbrev pub sheet_head : Format → List ℕ → List ℕ
 sheet_head format heading = section_start format section.Sheet ++ heading_text format level.Sheet heading
 
 -- the text of a board with these lines, if it was played
-abbrev pub played_text : Format → SessionValue → ℕ → List BoardLine → List ℕ
-played_text format s board [] = []
-played_text format s board (line ∷ lines) =
-    board_text format s.configuration.scoring board (deal_on s.deals board) (line ∷ lines)
+abbrev pub played_text : Format → MakeableBoards → SessionValue → ℕ → List BoardLine → List ℕ
+played_text format boards s board [] = []
+played_text format boards s board (line ∷ lines) =
+    board_text format s.configuration.scoring board (deal_on s.deals board) (makeable_on boards board) (line ∷ lines)
 
 -- the text of a board, if it was played
-abbrev pub board_on : Format → SessionValue → ℕ → List ℕ
-board_on format s board = played_text format s board (traveller s board)
+abbrev pub board_on : Format → MakeableBoards → SessionValue → ℕ → List ℕ
+board_on format boards s board = played_text format boards s board (traveller s board)
 
 -- the boards that were played, of boards 1 to 36
-unfoldable pub all_boards : Format → SessionValue → List ℕ
-all_boards format s = flat_map (board_on format s) (range_with_len 1 36)
+unfoldable pub all_boards : Format → MakeableBoards → SessionValue → List ℕ
+all_boards format boards s = flat_map (board_on format boards s) (range_with_len 1 36)
 
 -- the sheet of the boards
-abbrev pub boards_text : Format → SessionValue → List ℕ
-boards_text format s = sheet_head format (codes "Boards") ++ (all_boards format s ++ section_end format)
+abbrev pub boards_text : Format → MakeableBoards → SessionValue → List ℕ
+boards_text format boards s = sheet_head format (codes "Boards") ++ (all_boards format boards s ++ section_end format)
 
 -- the card of a pair
 abbrev pub card_on : Format → Names → SessionValue → ℕ → List ℕ
@@ -80,37 +82,38 @@ front_text format names configuration first second =
     event_text format configuration ++ rankings_text format names configuration first second
 
 -- the boards and the score cards, and the end of the page
-unfoldable pub sheets_text : Format → Names → SessionValue → List ℕ
-sheets_text format names s = boards_text format s ++ (cards_text format names s ++ page_end format)
+unfoldable pub sheets_text : Format → Names → MakeableBoards → SessionValue → List ℕ
+sheets_text format names boards s = boards_text format boards s ++ (cards_text format names s ++ page_end format)
 
 -- the page in plain text
-abbrev pub plain_page : Names → SessionValue → Option (List Ranked) → Option (List Ranked) → List ℕ
-plain_page names s first second = front_text Plain names s.configuration first second ++ sheets_text Plain names s
+abbrev pub plain_page : Names → MakeableBoards → SessionValue → Option (List Ranked) → Option (List Ranked) → List ℕ
+plain_page names boards s first second =
+    front_text Plain names s.configuration first second ++ sheets_text Plain names boards s
 
--- The page: the event, the rankings, the boards and the score cards, with the names of a list or the configuration's; in HTML with
--- links between its parts, and with each table's auction and play.
-abbrev pub named_page_text : Format → Names → SessionValue → Option (List Ranked) → Option (List Ranked) → List ℕ
-named_page_text Plain names s first second = plain_page names s first second
-named_page_text Html names s first second = page_html names s first second
+-- The page: the event, the rankings, the boards and the score cards, with the names of a list or the configuration's, and with what
+-- could be made on the boards of which it is known; in HTML with links between its parts, and with each table's auction and play.
+abbrev pub named_page_text : Format → Names → Analysis → SessionValue → Option (List Ranked) → Option (List Ranked) → List ℕ
+named_page_text Plain names analysis s first second = plain_page names analysis.boards s first second
+named_page_text Html names analysis s first second = page_html names analysis s first second
 
--- the page with the configuration's names
+-- the page with the configuration's names, and without what could be made
 abbrev pub page_text : Format → SessionValue → Option (List Ranked) → Option (List Ranked) → List ℕ
-page_text format s first second = named_page_text format None s first second
+page_text format s first second = named_page_text format None no_analysis s first second
 
--- the text is the page of the session's results with these names, and with the ranking of each field
-abbrev pub IsNamedPageText : Format → Names → SessionValue → List ℕ → Type 0
-IsNamedPageText format names s text = (first second : Option (List Ranked)) × IsFieldRanking s First first × IsFieldRanking s Second second
-    × (text ≡ named_page_text format names s first second)
+-- the text is the page of the session's results with these names and what could be made, and with the ranking of each field
+abbrev pub IsNamedPageText : Format → Names → Analysis → SessionValue → List ℕ → Type 0
+IsNamedPageText format names analysis s text = (first second : Option (List Ranked)) × IsFieldRanking s First first × IsFieldRanking s Second second
+    × (text ≡ named_page_text format names analysis s first second)
 
--- and with the configuration's names
+-- with the configuration's names, and without what could be made
 abbrev pub IsPageText : Format → SessionValue → List ℕ → Type 0
-IsPageText format s text = IsNamedPageText format None s text
+IsPageText format s text = IsNamedPageText format None no_analysis s text
 
--- the writer took the page of the session's results with these names, or at an error a prefix of it
-abbrev pub WritesNamedPage : {E : Type 0} → Stream → Format → Names → SessionValue → Result (Unit {0}) E → Type 0
-WritesNamedPage writer format names s result = (first second : Option (List Ranked)) × IsFieldRanking s First first × IsFieldRanking s Second second
-    × Written writer (named_page_text format names s first second) result
+-- the writer took the page of the session's results with these names and what could be made, or at an error a prefix of it
+abbrev pub WritesNamedPage : {E : Type 0} → Stream → Format → Names → Analysis → SessionValue → Result (Unit {0}) E → Type 0
+WritesNamedPage writer format names analysis s result = (first second : Option (List Ranked)) × IsFieldRanking s First first × IsFieldRanking s Second second
+    × Written writer (named_page_text format names analysis s first second) result
 
--- and with the configuration's names
+-- with the configuration's names, and without what could be made
 abbrev pub WritesPage : {E : Type 0} → Stream → Format → SessionValue → Result (Unit {0}) E → Type 0
-WritesPage writer format s result = WritesNamedPage writer format None s result
+WritesPage writer format s result = WritesNamedPage writer format None no_analysis s result

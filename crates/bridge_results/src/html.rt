@@ -19,3 +19,4 @@ mod tricks;
 
 pub use laws::plays_are_shown_as_recorded;
 pub use page::write_html;
+pub use recorded::shown_id;

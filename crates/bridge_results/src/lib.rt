@@ -8,11 +8,13 @@
 //! ```
 #![tactic(auto)]
 
+pub mod analysis;
 pub mod card;
 pub mod compare;
 pub mod frequency;
 mod gain;
 pub mod html;
+pub mod makeable;
 pub mod pages;
 pub mod play;
 pub mod results;
@@ -21,10 +23,12 @@ pub mod sums;
 pub mod tables;
 pub mod traveller;
 
+pub use analysis::{Analysis, PlayCosts};
 pub use card::{CardLine, MOST_CARD_LINES, ScoreCard};
 pub use compare::Comparison;
 pub use frequency::{Frequencies, Frequency, frequencies};
-pub use html::plays_are_shown_as_recorded;
+pub use html::{plays_are_shown_as_recorded, shown_id};
+pub use makeable::Makeable;
 pub use pages::{write_results, write_results_with};
 pub use play::TablePlay;
 pub use results::Results;

@@ -1,10 +1,15 @@
 -- What the commands `rank`, `pbn` and `results` write, and how `results` leaves a disk.
-use Rattle.std.specs.Prelude.{◌≡◌, ◌⊎◌, ◌++◌, [], ℕ, Bool, if◌then◌else◌, List, length, map, codes, MatchBool}
-use Rattle.club_commands.specs.Basis.{Disk, header_in, Stream, Ranking, Games, RefusesReading, RefusesDisk, ClubDisk, Over, file_disk, SessionValue}
+use Rattle.std.specs.Prelude.{◌≡◌, ◌⊎◌, ◌++◌, [], ℕ, Bool, if◌then◌else◌, List, length, map, codes, Option, MatchBool}
+use Rattle.club_commands.specs.Basis.{Store, NoMemory, Disk, header_in, Stream, Ranking, Games, RefusesReading, RefusesDisk, ClubDisk, Over, file_disk, SessionValue}
 use Rattle.club_commands.specs.declared.work.Told.{Told}
+use Rattle.command_line.specs.declared.command.PageAsked.{PageAsked}
+use Rattle.bridge_results.specs.Costs.{Analysis, no_analysis}
+use Rattle.session_analysis.specs.declared.found.Plays.{Plays}
+use Rattle.session_analysis.specs.declared.found.Plays.TheVariants.{Found, LeftOut}
+use Rattle.session_analysis.specs.Analysed.{IsAnalysisOf}
 use Rattle.bridge_results.specs.ResultsText.{IsNamedPageText}
 use Rattle.bridge_results.specs.ShownPairs.{Names}
-use Rattle.club_commands.specs.Ended.{Ended, Writes, IsRefusedFor}
+use Rattle.club_commands.specs.Ended.{Ended, Writes, WritesAndStops, IsRefusedFor}
 use Rattle.club_commands.specs.Listed.{RefusesList}
 use Rattle.evening_commands.specs.People.{fits}
 use Rattle.evening_commands.specs.declared.fault.EveningFault.TheVariants.{OtherPairs}
@@ -48,10 +53,31 @@ IsToldText Games s text = text ≡ session_text s
 abbrev pub Tells : (SessionValue → List ℕ → Type 0) → SessionValue → Stream → Ended → Type 0
 Tells IsText s output ended = (text : List ℕ) × IsText s text × Writes output text ended
 
+-- what a page of that format is to have of plays: the cards and what they cost stand in HTML alone
+abbrev pub plays_in : Format → Plays
+plays_in Plain = LeftOut
+plays_in Html = Found
+
+-- the page without it is written, and that memory was refused is the fault
+abbrev pub TellsWithout : Format → Names → SessionValue → Stream → Ended → Type 0
+TellsWithout format names s output ended =
+    (text : List ℕ) × IsNamedPageText format names no_analysis s text × WritesAndStops output text (Store NoMemory) ended
+
+-- the page with what is found of the session is written; or memory was refused
+abbrev pub TellsAnalysed : Format → Names → SessionValue → Stream → Ended → Type 0
+TellsAnalysed format names s output ended =
+    ((analysis : Analysis) × IsAnalysisOf (plays_in format) s analysis × Tells (IsNamedPageText format names analysis) s output ended)
+    ⊎ TellsWithout format names s output ended
+
+-- the page that is asked for is written, with what is found of the session or without
+abbrev pub TellsAsked : PageAsked → Names → SessionValue → Stream → Ended → Type 0
+TellsAsked page names s output ended = MatchBool page.no_analysis (Tells (IsNamedPageText (page_format page.html) names no_analysis) s output ended)
+    (TellsAnalysed (page_format page.html) names s output ended)
+
 -- the page of a session's results is written with these names; or that the list has another number of pairs, which is the fault
-abbrev pub TellsPage : Format → Names → SessionValue → Stream → Ended → Type 0
-TellsPage format names s output ended = MatchBool (fits names (length s.configuration.pairs))
-    (Tells (IsNamedPageText format names) s output ended) (RefusesList OtherPairs output ended)
+abbrev pub TellsPage : PageAsked → Names → SessionValue → Stream → Ended → Type 0
+TellsPage page names s output ended = MatchBool (fits names (length s.configuration.pairs))
+    (TellsAsked page names s output ended) (RefusesList OtherPairs output ended)
 
 -- that was done with the session that was read of a disk, which it left so; or none was
 abbrev pub ReadsAnd : {D : Type 0} → (SessionValue → Stream → Ended → Type 0) → Disk D → Stream → Ended → D → D → Type 0
@@ -59,8 +85,8 @@ ReadsAnd Does disk output ended d left = IsRefusedFor (RefusesReading disk heade
     ⊎ ((s : SessionValue) × ReadsSession disk d left s × Does s output ended)
 
 -- its page was written
-abbrev pub ReadsAndTells : {D : Type 0} → Format → Names → Disk D → Stream → Ended → D → D → Type 0
-ReadsAndTells format names disk output ended d left = ReadsAnd (TellsPage format names) disk output ended d left
+abbrev pub ReadsAndTells : {D : Type 0} → PageAsked → Names → Disk D → Stream → Ended → D → D → Type 0
+ReadsAndTells page names disk output ended d left = ReadsAnd (TellsPage page names) disk output ended d left
 
 -- the same of the session that was opened on a disk, which is as opening left it; or none was
 abbrev pub TellsDisk : Told → Stream → Ended → ClubDisk → ClubDisk → Type 0

@@ -18,7 +18,7 @@ use Rattle.club_commands.specs.declared.work.Work.{Work}
 use Rattle.club_commands.specs.declared.work.Work.TheVariants.{Serve, Tell, Results, Export, Check, Format}
 use Rattle.club_commands.specs.Ended.{Ended, Writes}
 use Rattle.club_commands.specs.ConfigFile.{OfFile, Begins}
-use Rattle.club_commands.specs.Results.{page_format, Tells, ReadsAnd, ReadsAndTells, TellsDisk}
+use Rattle.club_commands.specs.Results.{Tells, ReadsAnd, ReadsAndTells, TellsDisk}
 use Rattle.club_commands.specs.Exports.{IsExportText}
 use Rattle.club_commands.specs.Checked.{Checks}
 use Rattle.club_commands.specs.Serving.{Scripts, ServesPort}
@@ -82,7 +82,7 @@ module _ (input output : Stream) (ended : Ended) where
   abbrev pub Works : Work → ClubDisk → ClubDisk → Type 0
   Works (Serve service) d left = ServesDisk service d left
   Works (Tell told) d left = TellsDisk told output ended d left × IsUntouched input
-  Works (Results html names) d left = ReadsAndTells (page_format html) names file_disk output ended d left × IsUntouched input
+  Works (Results page names) d left = ReadsAndTells page names file_disk output ended d left × IsUntouched input
   Works (Export rankings) d left = ReadsAnd (Tells (IsExportText rankings)) file_disk output ended d left × IsUntouched input
   Works Check d left = Checks file_disk d left output ended × IsUntouched input
   Works (Format session) d left = Formats d left session.now output ended × IsUntouched input
@@ -108,7 +108,7 @@ module _ (input output : Stream) (ended : Ended) where
 
 -- what is done over a disk where names are shown
 abbrev pub work_with : Listed → Names → Work
-work_with (listed.Results html) names = Results html names
+work_with (listed.Results page) names = Results page names
 work_with (listed.Pages texts host minutes disk misfit) names =
     Serve (Pages (record { texts = texts; host = host; minutes = minutes; misfit = misfit; names = names }) disk)
 

@@ -5,7 +5,7 @@ ghost use Rattle.club_commands.specs.MakeableDeals.{EndsAs, HasMade, form_of};
 
 use crate::fault::RunFault;
 use crate::machine::Machine;
-use makeable_deals::{MakeableFault, MakeableForm, run_makeable};
+use makeable_deals::{MakeableFault, MakeableForm, Progress, run_makeable};
 use std::alloc::Global;
 use std::io::Write;
 
@@ -40,5 +40,6 @@ pub fn write_makeable<S: Machine, W: Write>(
 ) -> Result<(), RunFault>
     ensures { HasMade pbn (stream W.contents output.old output.new) result }
 {
-    ended(run_makeable(rt, alloc, form_of(pbn), file, output))
+    let progress = Progress::on(rt.errors());
+    ended(run_makeable(rt, alloc, form_of(pbn), progress, file, output))
 }

@@ -18,6 +18,7 @@ use crate::services::serve_over;
 use crate::telling::tell_over;
 use crate::work::Work;
 use club_disk::{Access, ClubDisk, Left, let_go, lock_for, locked_disk};
+use makeable_deals::Progress;
 use sector_disk::DiskFault;
 use session_store::StoreFault;
 use std::alloc::Global;
@@ -53,7 +54,10 @@ fn do_work<S: Host, R: Read, W: Write>(
     match *work {
         Work::Serve(service) => serve_over(rt, alloc, &service, disk, input, output),
         Work::Tell(told) => tell_over(alloc, told, disk, output),
-        Work::Results { html, names } => results_over(alloc, html, names, disk, output),
+        Work::Results { page, names } => {
+            let progress = Progress::on(rt.errors());
+            results_over(alloc, progress, page, names, disk, output)
+        }
         Work::Export { rankings } => export_over(alloc, rankings, disk, output),
         Work::Check => check_over(alloc, disk, output),
         Work::Format(session) => format_disk(disk, session, output),

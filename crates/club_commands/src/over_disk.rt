@@ -15,7 +15,7 @@ use crate::listed::run_listed;
 use crate::machine::Machine;
 use crate::on_disk::run_over;
 use crate::work::{Listed, Misfit, Service, Shown, Told, Work};
-use command_line::WebWords;
+use command_line::{PageAsked, WebWords};
 use std::alloc::Global;
 use std::io::{Read, Write};
 use table_pages::PageTexts;
@@ -122,16 +122,23 @@ pub fn write_page<S: Machine, R: Read, W: Write>(
     rt: &S,
     alloc: Global,
     disk: &str,
-    html: bool,
+    page: PageAsked,
     names: Option<&str>,
     input: &mut R,
     output: &mut W,
 ) -> Result<(), RunFault>
-    ensures { WithList (HasListed (ListedResults html)) names.entry (stream R.remaining input.old input.new)
+    ensures { WithList (HasListed (ListedResults page)) names.entry (stream R.remaining input.old input.new)
         (stream W.contents output.old output.new) result }
 {
-    let page = Listed::Results { html };
-    run_listed(rt, alloc, disk, &page, names, input, output)
+    run_listed(
+        rt,
+        alloc,
+        disk,
+        &Listed::Results(page),
+        names,
+        input,
+        output,
+    )
 }
 
 /// Reads it, and writes its rankings or its plays as comma-separated values.

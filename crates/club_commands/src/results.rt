@@ -2,8 +2,9 @@
 ghost use Rattle.std.specs.Prelude.{◌≡◌};
 ghost use Rattle.line_text.specs.Streams.{stream};
 ghost use Rattle.bridge_pbn.specs.Games.{session_text};
+ghost use Rattle.bridge_results.specs.Costs.{seen, no_analysis};
 ghost use Rattle.bridge_results.specs.ResultsText.{IsNamedPageText};
-ghost use Rattle.club_commands.specs.Results.{field_heading, IsFieldText, IsRankingText, page_format, Tells, TellsPage, ReadsAndTells};
+ghost use Rattle.club_commands.specs.Results.{field_heading, IsFieldText, IsRankingText, page_format, Tells, plays_in, TellsWithout, TellsAnalysed, TellsAsked, TellsPage, ReadsAndTells};
 ghost use Rattle.club_commands.specs.Ended.{Writes};
 ghost use Rattle.sector_disk.specs.File.{file_disk};
 
@@ -11,13 +12,17 @@ use crate::fault::RunFault;
 use crate::listed::refuse_list;
 use crate::output::write_output;
 use bridge_pbn::write_pbn;
-use bridge_results::write_results_with;
+use bridge_results::{Analysis, write_results_with};
 use bridge_session::{Field, Session};
 use club_disk::{ClubDisk, Left, read_disk};
+use command_line::PageAsked;
 use evening_commands::{EveningFault, has_pairs};
 use evening_draft::PairNames;
+use makeable_deals::Progress;
 use page_layout::Format;
 use sector_disk::SectorDisk;
+use session_analysis::{Plays, analysis_of};
+use session_store::StoreFault;
 use std::alloc::Global;
 use std::io::Write;
 use table_server::{ReplyText, ServeFault, push_pairs};
@@ -73,32 +78,113 @@ fn page_format(html: bool) -> Format
     if html { Format::Html } else { Format::Plain }
 }
 
-/// Writes the results as a page, with these names or the configuration's.
+/// Writes the results as a page, with these names or the configuration's, and with what was found.
 fn write_named<W: Write>(
     session: &Session,
-    html: bool,
+    format: Format,
     names: Option<&[PairNames]>,
+    analysis: &Analysis<'_>,
     output: &mut W,
 ) -> Result<(), RunFault>
-    ensures { Tells (IsNamedPageText (page_format html) names.entry) session.now (stream W.contents output.old output.new) result }
+    ensures { Tells (IsNamedPageText format names.entry (seen analysis.now)) session.now (stream W.contents output.old output.new) result }
 {
-    match write_results_with(session, names, page_format(html), output) {
+    match write_results_with(session, names, analysis, format, output) {
         Ok(()) => Ok(()),
         Err(_) => Err(RunFault::Stream(ServeFault::Write)),
     }
 }
 
-/// The same; or that the list has another number of pairs, which is the fault.
-fn write_page<W: Write>(
+/// Writes the page without an analysis.
+fn write_plain<W: Write>(
     session: &Session,
-    html: bool,
+    format: Format,
     names: Option<&[PairNames]>,
     output: &mut W,
 ) -> Result<(), RunFault>
-    ensures { TellsPage (page_format html) names.entry session.now (stream W.contents output.old output.new) result }
+    ensures { Tells (IsNamedPageText format names.entry no_analysis) session.now (stream W.contents output.old output.new) result }
+{
+    let analysis = Analysis {
+        boards: &[],
+        plays: &[],
+    };
+    write_named(session, format, names, &analysis, output)
+}
+
+/// The same, and then the fault is that memory was refused.
+fn write_without<W: Write>(
+    session: &Session,
+    format: Format,
+    names: Option<&[PairNames]>,
+    output: &mut W,
+) -> Result<(), RunFault>
+    ensures { TellsWithout format names.entry session.now (stream W.contents output.old output.new) result }
+{
+    write_plain(session, format, names, output)?;
+    Err(RunFault::Store(StoreFault::NoMemory))
+}
+
+/// Whether a page of that format shows what cards cost: the plays stand in HTML alone.
+fn plays_in(format: Format) -> Plays
+    ensures { result ≡ plays_in format }
+{
+    match format {
+        Format::Plain => Plays::LeftOut,
+        Format::Html => Plays::Found,
+    }
+}
+
+/// Writes the page with what is found of the session; or where memory is refused, without.
+fn write_analysed<W: Write>(
+    alloc: Global,
+    progress: Progress,
+    session: &Session,
+    format: Format,
+    names: Option<&[PairNames]>,
+    output: &mut W,
+) -> Result<(), RunFault>
+    ensures { TellsAnalysed format names.entry session.now (stream W.contents output.old output.new) result }
+{
+    let mut progress = progress;
+    let found = analysis_of(alloc, session, plays_in(format), &mut progress);
+    progress.end();
+    match found {
+        Ok(found) => write_named(session, format, names, &found.analysis(), output),
+        Err(_) => write_without(session, format, names, output),
+    }
+}
+
+/// Writes the page that is asked for.
+fn write_asked<W: Write>(
+    alloc: Global,
+    progress: Progress,
+    session: &Session,
+    page: PageAsked,
+    names: Option<&[PairNames]>,
+    output: &mut W,
+) -> Result<(), RunFault>
+    ensures { TellsAsked page names.entry session.now (stream W.contents output.old output.new) result }
+{
+    let format = page_format(page.html);
+    if page.no_analysis {
+        write_plain(session, format, names, output)
+    } else {
+        write_analysed(alloc, progress, session, format, names, output)
+    }
+}
+
+/// The same; or that the list has another number of pairs, which is the fault.
+fn write_page<W: Write>(
+    alloc: Global,
+    progress: Progress,
+    session: &Session,
+    page: PageAsked,
+    names: Option<&[PairNames]>,
+    output: &mut W,
+) -> Result<(), RunFault>
+    ensures { TellsPage page names.entry session.now (stream W.contents output.old output.new) result }
 {
     if has_pairs(names, session.config()) {
-        write_named(session, html, names, output)
+        write_asked(alloc, progress, session, page, names, output)
     } else {
         refuse_list(EveningFault::OtherPairs, output)
     }
@@ -107,16 +193,17 @@ fn write_page<W: Write>(
 /// Reads the session that a disk holds, to which nothing is written, and writes its results as a page.
 fn tell_disk<D: SectorDisk, W: Write>(
     alloc: Global,
-    html: bool,
+    progress: Progress,
+    page: PageAsked,
     names: Option<&[PairNames]>,
     disk: &mut D,
     output: &mut W,
 ) -> Result<(), RunFault>
-    ensures { ReadsAndTells (page_format html) names.entry D.disk (stream W.contents output.old output.new) result
+    ensures { ReadsAndTells page names.entry D.disk (stream W.contents output.old output.new) result
         disk.old disk.new }
 {
     match read_disk(alloc, disk) {
-        Ok(session) => write_page(&session, html, names, output),
+        Ok(session) => write_page(alloc, progress, &session, page, names, output),
         Err(cause) => Err(RunFault::Store(cause)),
     }
 }
@@ -124,15 +211,16 @@ fn tell_disk<D: SectorDisk, W: Write>(
 /// The same, and hands the disk out.
 pub fn results_over<W: Write>(
     alloc: Global,
-    html: bool,
+    progress: Progress,
+    page: PageAsked,
     names: Option<&[PairNames]>,
     disk: ClubDisk,
     output: &mut W,
 ) -> Left<ClubDisk, RunFault>
-    ensures { ReadsAndTells (page_format html) names.entry file_disk (stream W.contents output.old output.new) result.ended
+    ensures { ReadsAndTells page names.entry file_disk (stream W.contents output.old output.new) result.ended
         disk result.disk }
 {
     let mut disk = disk;
-    let ended = tell_disk(alloc, html, names, &mut disk, output);
+    let ended = tell_disk(alloc, progress, page, names, &mut disk, output);
     Left { disk, ended }
 }

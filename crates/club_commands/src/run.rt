@@ -124,8 +124,8 @@ fn do_command<S: Machine, R: Read, W: Write>(
         Command::Web { disk, pages } => run_web(rt, alloc, texts, disk, &pages, input, output),
         Command::Rank { disk } => tell(rt, alloc, disk, Told::Ranking, input, output),
         Command::Pbn { disk } => tell(rt, alloc, disk, Told::Games, input, output),
-        Command::Results { disk, html, names } => write_page(
-            rt, alloc, disk, html, names, input, output,
+        Command::Results { disk, page, names } => write_page(
+            rt, alloc, disk, page, names, input, output,
         ),
         Command::Export { disk, rankings } => export(rt, alloc, disk, rankings, input, output),
         Command::Check { disk, copy } => run_check(rt, alloc, disk, copy, input, output),

@@ -3,7 +3,7 @@ ghost use Rattle.std.specs.Prelude.{◌≡◌};
 ghost use Rattle.club_commands.specs.Works.{work_with};
 
 use bridge_session::Session;
-use command_line::WebHost;
+use command_line::{PageAsked, WebHost};
 use evening_draft::PairNames;
 use table_pages::PageTexts;
 use table_server::LineSet;
@@ -57,10 +57,7 @@ pub enum Misfit {
 #[derive(Clone, Copy, Debug)]
 pub enum Listed<'a> {
     /// The results of its session are written as a page.
-    Results {
-        /// Whether the page is of HTML, and not of plain text.
-        html: bool,
-    },
+    Results(PageAsked),
     /// Its session is opened, and browsers are shown pages.
     Pages {
         /// What the pages are.
@@ -82,7 +79,7 @@ impl<'a> Listed<'a> {
         ensures { result ≡ work_with self.now names.entry }
     {
         match *self {
-            Listed::Results { html } => Work::Results { html, names },
+            Listed::Results(page) => Work::Results { page, names },
             Listed::Pages {
                 texts,
                 host,
@@ -121,8 +118,8 @@ pub enum Work<'a> {
     Tell(Told),
     /// Its session is read, and its results are written as a page.
     Results {
-        /// Whether the page is of HTML, and not of plain text.
-        html: bool,
+        /// What page.
+        page: PageAsked,
         /// The names that are shown, in place of the configuration's.
         names: Option<&'a [PairNames]>,
     },

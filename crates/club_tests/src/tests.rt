@@ -132,7 +132,7 @@ fn words_of(alloc: Global, text: &str) -> Result<Vec<&str>, AllocError> {
 
 /// Each command with its words. Numbers are taken from the least to the most, a sign and zeros before them too, and the
 /// options before, between and behind the other words.
-const COMMANDS: [&str; 35] = [
+const COMMANDS: [&str; 36] = [
     "auction 1",
     "auction 36",
     "auction +7",
@@ -155,6 +155,7 @@ const COMMANDS: [&str; 35] = [
     "results club.disk --html",
     "results --html club.disk",
     "results club.disk --names names.txt --html",
+    "results --no-analysis club.disk --html",
     "check club.disk",
     "plan club.txt",
     "plan --names names.txt club.txt",

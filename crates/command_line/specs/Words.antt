@@ -116,9 +116,13 @@ pbn_app = disk_app (codes "pbn")
 abbrev pub html_rule : Rule
 html_rule = flag_rule (codes "html")
 
--- the command `results DISK`, with that flag and that option or without
+-- the flag `--no-analysis`
+abbrev pub no_analysis_rule : Rule
+no_analysis_rule = flag_rule (codes "no-analysis")
+
+-- the command `results DISK`, with those flags and that option or without
 abbrev pub results_app : App
-results_app = with_rule (with_rule (disk_app (codes "results")) html_rule) names_option_rule
+results_app = with_rule (with_rule (with_rule (disk_app (codes "results")) html_rule) no_analysis_rule) names_option_rule
 
 -- the argument DISK2, which may be left out
 abbrev pub other_disk_rule : Rule
@@ -315,8 +319,8 @@ HasWords rows (Serve disk port count) = HasText rows (codes "DISK") disk.now
 HasWords rows (Web disk pages) = HasText rows (codes "DISK") disk.now × HasPages rows pages
 HasWords rows (Rank disk) = HasText rows (codes "DISK") disk.now
 HasWords rows (Pbn disk) = HasText rows (codes "DISK") disk.now
-HasWords rows (Results disk html names) = HasText rows (codes "DISK") disk.now × HasFlag rows (codes "html") html
-    × HasOption rows (codes "names") names
+HasWords rows (Results disk page names) = HasText rows (codes "DISK") disk.now × HasFlag rows (codes "html") page.html
+    × HasFlag rows (codes "no-analysis") page.no_analysis × HasOption rows (codes "names") names
 HasWords rows (Check disk copy) = HasText rows (codes "DISK") disk.now × HasOption rows (codes "DISK2") copy
 HasWords rows (Plan config names) = HasText rows (codes "CONFIG") config.now × HasOption rows (codes "names") names
 HasWords rows (Draft names wishes) = HasText rows (codes "NAMES") names.now × HasWishes rows wishes
@@ -337,7 +341,7 @@ name_of (Serve disk port count) = codes "serve"
 name_of (Web disk pages) = codes "web"
 name_of (Rank disk) = codes "rank"
 name_of (Pbn disk) = codes "pbn"
-name_of (Results disk html names) = codes "results"
+name_of (Results disk page names) = codes "results"
 name_of (Check disk copy) = codes "check"
 name_of (Plan config names) = codes "plan"
 name_of (Draft names wishes) = codes "draft"

@@ -1,7 +1,7 @@
 //! The arguments of the commands, as they are declared to clap.
 ghost use Rattle.std.specs.Prelude.{◌≡◌, false};
 ghost use Rattle.clap.specs.Words.{rule_of};
-ghost use Rattle.command_line.specs.Words.{board_rule, disk_rule, other_disk_rule, second_disk_rule, config_rule, file_rule, port_rule, count_rule, minutes_rule, address_rule, name_rule, open_boards_rule, copy_rule, html_rule, rankings_rule, pbn_rule};
+ghost use Rattle.command_line.specs.Words.{board_rule, disk_rule, other_disk_rule, second_disk_rule, config_rule, file_rule, port_rule, count_rule, minutes_rule, address_rule, name_rule, open_boards_rule, copy_rule, html_rule, no_analysis_rule, rankings_rule, pbn_rule};
 
 use clap::builder::ValueParser;
 use clap::{Arg, ArgAction};
@@ -43,6 +43,17 @@ pub fn html_argument<'a>(alloc: Global) -> Arg<'a>
     Arg::new(alloc, "html")
         .long("html")
         .help("As a page of HTML in place of plain text")
+        .action(ArgAction::SetTrue)
+}
+
+/// The flag `--no-analysis`.
+pub fn no_analysis_argument<'a>(alloc: Global) -> Arg<'a>
+    ensures rule { rule_of result ≡ no_analysis_rule }
+    ensures local { result.global ≡ false }
+{
+    Arg::new(alloc, "no-analysis")
+        .long("no-analysis")
+        .help("Without what could be made on each board, which takes a minute or more to find")
         .action(ArgAction::SetTrue)
 }
 

@@ -1,6 +1,15 @@
 //! What the words after the program's name ask for.
 use bridge_cards::BoardNumber;
 
+/// What page of results is asked for.
+#[derive(Clone, Copy, Debug, PartialEq, Eq)]
+pub struct PageAsked {
+    /// Whether `--html` is among the words: it is of HTML, and not of plain text.
+    pub html: bool,
+    /// Whether `--no-analysis` is: it has no word of what could be made on a board.
+    pub no_analysis: bool,
+}
+
 /// A command with its words.
 #[derive(Clone, Copy, Debug, PartialEq, Eq)]
 pub enum Command<'a> {
@@ -51,13 +60,13 @@ pub enum Command<'a> {
         /// DISK, the name of the disk's file.
         disk: &'a str,
     },
-    /// `results DISK [--html] [--names NAMES]`: the results of the session that a disk holds, as a page of text, or with `--html`
-    /// of HTML.
+    /// `results DISK [--html] [--no-analysis] [--names NAMES]`: the results of the session that a disk holds, as a page of text, or
+    /// with `--html` of HTML.
     Results {
         /// DISK, the name of the disk's file.
         disk: &'a str,
-        /// Whether `--html` is among the words.
-        html: bool,
+        /// What page.
+        page: PageAsked,
         /// The file with the names as people write them, in place of the configuration's names.
         names: Option<&'a str>,
     },

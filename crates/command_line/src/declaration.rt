@@ -7,8 +7,8 @@ ghost use Rattle.command_line.specs.Words.{auction_app, format_app, script_app, 
 use crate::arguments::{
     address_argument, board_argument, config_argument, copy_argument, count_argument,
     disk_argument, file_argument, html_argument, minutes_argument, name_argument,
-    open_boards_argument, other_disk_argument, pbn_argument, port_argument, rankings_argument,
-    second_disk_argument,
+    no_analysis_argument, open_boards_argument, other_disk_argument, pbn_argument, port_argument,
+    rankings_argument, second_disk_argument,
 };
 use crate::evening_arguments::names_option;
 use crate::evening_declaration::{draft_command, evening_command, slips_command};
@@ -170,7 +170,7 @@ fn pbn_command<'a>(alloc: Global) -> Result<clap::Command<'a>, AllocError>
         .arg(disk_argument(alloc))
 }
 
-/// The command `results DISK`, with `--html` or without, and with a list of names or none.
+/// The command `results DISK`, with `--html` and `--no-analysis` or without, and with a list of names or none.
 fn results_command<'a>(alloc: Global) -> Result<clap::Command<'a>, AllocError>
     ensures shape { IfOk result (λ command. shape_of command ≡ results_app.top) }
     ensures local { IfOk result (λ command. (fields_of command).has_globals ≡ false) }
@@ -179,6 +179,7 @@ fn results_command<'a>(alloc: Global) -> Result<clap::Command<'a>, AllocError>
         .about("Prints the rankings, travellers and score cards of the session on a disk")
         .arg(disk_argument(alloc))?
         .arg(html_argument(alloc))?
+        .arg(no_analysis_argument(alloc))?
         .arg(names_option(alloc))
 }
 

@@ -14,5 +14,7 @@ mod evening_declaration;
 mod evening_read;
 mod read;
 
-pub use command::{Command, DraftWords, EveningWords, SlipWords, WebHost, WebWords, WordsFault};
+pub use command::{
+    Command, DraftWords, EveningWords, PageAsked, SlipWords, WebHost, WebWords, WordsFault,
+};
 pub use read::read_words;

@@ -3,7 +3,7 @@ ghost use Rattle.std.specs.Prelude.{IfOk, IfErr, IfSome, codes, map};
 ghost use Rattle.clap.specs.Words.{rows_of, found_of, subcommand_rows_of};
 ghost use Rattle.command_line.specs.Words.{HasNumber, HasFlag, HasOption, HasHost, HasPages, IsCommand, IsNamed, AsksCommand, IsRefusedBy};
 
-use crate::command::{Command, WebHost, WebWords, WordsFault};
+use crate::command::{Command, PageAsked, WebHost, WebWords, WordsFault};
 use crate::declaration::club_command;
 use crate::evening_read::{draft_of, evening_of, slips_of};
 use bridge_cards::BoardNumber;
@@ -187,14 +187,16 @@ fn pbn_of<'a>(found: &ArgMatches<'a>) -> Option<Command<'a>>
     Some(Command::Pbn { disk })
 }
 
-/// The command `results` with its disk, whether it asks for HTML, and its list of names.
+/// The command `results` with its disk, whether it asks for HTML and for no analysis, and its list of names.
 fn results_of<'a>(found: &ArgMatches<'a>) -> Option<Command<'a>>
     ensures { IfSome result (IsNamed (codes "results") (rows_of (found_of found.now))) }
 {
     let disk = found.get_str("DISK")?;
     let html = has_flag(found, "html");
+    let no_analysis = has_flag(found, "no-analysis");
     let names = option_of(found, "names");
-    Some(Command::Results { disk, html, names })
+    let page = PageAsked { html, no_analysis };
+    Some(Command::Results { disk, page, names })
 }
 
 /// Whether a flag is given.

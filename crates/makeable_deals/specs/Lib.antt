@@ -4,3 +4,4 @@ pub mod Making
 pub mod FaultLine
 pub mod Games
 pub mod DealingViews
+pub mod Progress

@@ -5,8 +5,10 @@ ghost use Rattle.makeable_deals.specs.Making.{text_in, WritesDeals, MakesOf, Mak
 
 use crate::board_deal::BoardDeal;
 use crate::games::write_games;
+use crate::progress::Progress;
 use crate::read::read_deals;
 use crate::refused::DealsFault;
+use crate::solved::Solving;
 use crate::text::{TEXT_BYTES, read_text};
 use crate::write::{WriteFault, write_makeable};
 use std::alloc::Global;
@@ -40,29 +42,34 @@ pub enum MakeableForm {
 fn write_form<W: Write>(
     alloc: Global,
     form: MakeableForm,
+    progress: Progress,
     text: &[u8],
     deals: &[BoardDeal],
     output: &mut W,
 ) -> Result<(), WriteFault>
     ensures { Written (stream W.contents output.old output.new) (text_in form text.now deals.now) result }
 {
-    match form {
-        MakeableForm::Lines => write_makeable(alloc, deals, output),
-        MakeableForm::Games => write_games(alloc, text, deals, output),
-    }
+    let mut work = Solving::of(deals.len(), progress);
+    let written = match form {
+        MakeableForm::Lines => write_makeable(alloc, deals, &mut work, output),
+        MakeableForm::Games => write_games(alloc, text, deals, &mut work, output),
+    };
+    work.end();
+    written
 }
 
 /// The same, with the fault of a run.
 fn write_deals<W: Write>(
     alloc: Global,
     form: MakeableForm,
+    progress: Progress,
     text: &[u8],
     deals: &[BoardDeal],
     output: &mut W,
 ) -> Result<(), MakeableFault>
     ensures { WritesDeals (stream W.contents output.old output.new) result form text.now deals.now }
 {
-    match write_form(alloc, form, text, deals, output) {
+    match write_form(alloc, form, progress, text, deals, output) {
         Ok(()) => Ok(()),
         Err(WriteFault::Write) => Err(MakeableFault::Write),
         Err(WriteFault::Memory) => Err(MakeableFault::Deals(DealsFault::Memory)),
@@ -73,6 +80,7 @@ fn write_deals<W: Write>(
 fn makeable_of_text<W: Write>(
     alloc: Global,
     form: MakeableForm,
+    progress: Progress,
     text: &[u8],
     output: &mut W,
 ) -> Result<(), MakeableFault>
@@ -82,7 +90,7 @@ fn makeable_of_text<W: Write>(
         return Err(MakeableFault::LongText);
     }
     match read_deals(alloc, text) {
-        Ok(deals) => write_deals(alloc, form, text, deals.as_slice(), output),
+        Ok(deals) => write_deals(alloc, form, progress, text, deals.as_slice(), output),
         Err(fault) => Err(MakeableFault::Deals(fault)),
     }
 }
@@ -91,6 +99,7 @@ fn makeable_of_text<W: Write>(
 pub fn makeable_of_reader<R: Read, W: Write>(
     alloc: Global,
     form: MakeableForm,
+    progress: Progress,
     reader: &mut R,
     output: &mut W,
 ) -> Result<(), MakeableFault>
@@ -98,7 +107,7 @@ pub fn makeable_of_reader<R: Read, W: Write>(
 {
     let mut text = Vec::new(alloc);
     match read_text(reader, &mut text) {
-        Ok(()) => makeable_of_text(alloc, form, text.as_slice(), output),
+        Ok(()) => makeable_of_text(alloc, form, progress, text.as_slice(), output),
         Err(fault) => Err(fault),
     }
 }
@@ -108,13 +117,14 @@ pub fn makeable_of_reader<R: Read, W: Write>(
 fn makeable_found<R: Read + Drop, W: Write>(
     alloc: Global,
     form: MakeableForm,
+    progress: Progress,
     found: io::Result<R>,
     output: &mut W,
 ) -> Result<(), MakeableFault>
     ensures { OfFound R.remaining (Makes (stream W.contents output.old output.new) result form) found }
 {
     match found {
-        Ok(mut file) => makeable_of_reader(alloc, form, &mut file, output),
+        Ok(mut file) => makeable_of_reader(alloc, form, progress, &mut file, output),
         Err(_) => Err(MakeableFault::Read),
     }
 }
@@ -125,10 +135,11 @@ pub fn run_makeable<S: Files<File = File>, W: Write>(
     rt: &S,
     alloc: Global,
     form: MakeableForm,
+    progress: Progress,
     file: &str,
     output: &mut W,
 ) -> Result<(), MakeableFault>
     ensures { OfFile (Makes (stream W.contents output.old output.new) result form) }
 {
-    makeable_found(alloc, form, File::open(rt, file), output)
+    makeable_found(alloc, form, progress, File::open(rt, file), output)
 }

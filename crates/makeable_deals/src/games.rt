@@ -5,7 +5,7 @@ ghost use Rattle.line_text.specs.Streams.{stream, Written};
 ghost use Rattle.makeable_deals.specs.Games.{is_deal_line, deal_tags, whole_line, first_tags, tags_after, deals_after, games_text};
 
 use crate::board_deal::BoardDeal;
-use crate::solved::{Solved, solve_after};
+use crate::solved::Solving;
 use crate::tags::tags_with;
 use crate::write::WriteFault;
 use line_text::{first_line, write_text};
@@ -51,27 +51,28 @@ fn write_whole_line<W: Write>(line: &[u8], writer: &mut W) -> Result<(), WriteFa
 fn write_tags<W: Write>(
     alloc: Global,
     deal: &BoardDeal,
-    last: &mut Option<Solved>,
+    work: &mut Solving,
     writer: &mut W,
 ) -> Result<(), WriteFault>
     ensures { Written (stream W.contents writer.old writer.new) (deal_tags deal.now) result }
 {
-    let solved = solve_after(alloc, *last, &deal.deal).map_err(|_| WriteFault::Memory)?;
-    *last = Some(solved);
-    write_piece(tags_with(deal, &solved.table).as_slice(), writer)
+    let table = work
+        .solve(alloc, &deal.deal)
+        .map_err(|_| WriteFault::Memory)?;
+    write_piece(tags_with(deal, &table).as_slice(), writer)
 }
 
 /// Writes the tags of the first of the deals.
 fn write_first<W: Write>(
     alloc: Global,
     deals: &[BoardDeal],
-    last: &mut Option<Solved>,
+    work: &mut Solving,
     writer: &mut W,
 ) -> Result<(), WriteFault>
     ensures { Written (stream W.contents writer.old writer.new) (first_tags deals.now) result }
 {
     match deals.split_first() {
-        Some((deal, _)) => write_tags(alloc, deal, last, writer),
+        Some((deal, _)) => write_tags(alloc, deal, work, writer),
         None => Ok(()),
     }
 }
@@ -81,13 +82,13 @@ fn write_after<W: Write>(
     alloc: Global,
     line: &[u8],
     deals: &[BoardDeal],
-    last: &mut Option<Solved>,
+    work: &mut Solving,
     writer: &mut W,
 ) -> Result<(), WriteFault>
     ensures { Written (stream W.contents writer.old writer.new) (tags_after line.now deals.now) result }
 {
     if is_deal_line(line) {
-        write_first(alloc, deals, last, writer)
+        write_first(alloc, deals, work, writer)
     } else {
         Ok(())
     }
@@ -98,13 +99,13 @@ fn write_game_line<W: Write>(
     alloc: Global,
     line: &[u8],
     deals: &[BoardDeal],
-    last: &mut Option<Solved>,
+    work: &mut Solving,
     writer: &mut W,
 ) -> Result<(), WriteFault>
     ensures { Written (stream W.contents writer.old writer.new) (whole_line line.now ++ tags_after line.now deals.now) result }
 {
     write_whole_line(line, writer)?;
-    write_after(alloc, line, deals, last, writer)
+    write_after(alloc, line, deals, work, writer)
 }
 
 /// Writes the lines of a text in Portable Bridge Notation, which has these deals, each with a line feed, and after each line that
@@ -116,15 +117,15 @@ pub fn write_games<W: Write>(
     alloc: Global,
     text: &[u8],
     deals: &[BoardDeal],
+    work: &mut Solving,
     writer: &mut W,
 ) -> Result<(), WriteFault>
     ensures { Written (stream W.contents writer.old writer.new) (games_text (lines text.now) deals.now) result }
 {
     let mut rest = text;
     let mut left = deals;
-    let mut last = None;
     while let Some((line, after)) = first_line(rest) {
-        write_game_line(alloc, line, left, &mut last, writer)?;
+        write_game_line(alloc, line, left, work, writer)?;
         left = deals_after(line, left);
         rest = after;
     }

@@ -3,7 +3,8 @@
 //!
 //! ```rust
 //! let deals = read_deals(alloc, text)?;
-//! write_makeable(alloc, &deals, &mut writer)?;
+//! let mut work = Solving::of(deals.len(), Progress::silent());
+//! write_makeable(alloc, &deals, &mut work, &mut writer)?;
 //! ```
 #![tactic(auto)]
 
@@ -14,10 +15,11 @@ pub mod games;
 mod heading;
 mod line;
 mod line_item;
-mod makeable;
+pub mod makeable;
+pub mod progress;
 pub mod read;
 pub mod refused;
-mod solved;
+pub mod solved;
 mod tags;
 pub mod text;
 pub mod write;
@@ -26,6 +28,8 @@ pub use board_deal::BoardDeal;
 pub use fault_line::makeable_line;
 pub use file::{MakeableFault, MakeableForm, makeable_of_reader, run_makeable};
 pub use games::write_games;
+pub use progress::{Part, Progress};
 pub use read::read_deals;
 pub use refused::{DealsFault, DealsRefused};
+pub use solved::Solving;
 pub use write::{WriteFault, write_makeable};

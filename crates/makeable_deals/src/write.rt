@@ -4,7 +4,7 @@ ghost use Rattle.makeable_deals.specs.Makeable.{deal_lines, makeable_text};
 
 use crate::board_deal::BoardDeal;
 use crate::line::lines_with;
-use crate::solved::{Solved, solve_after};
+use crate::solved::Solving;
 use line_text::write_text;
 use std::alloc::Global;
 use std::io::Write;
@@ -22,14 +22,15 @@ pub enum WriteFault {
 fn write_deal<W: Write>(
     alloc: Global,
     deal: &BoardDeal,
-    last: &mut Option<Solved>,
+    work: &mut Solving,
     writer: &mut W,
 ) -> Result<(), WriteFault>
     ensures { Written (stream W.contents writer.old writer.new) (deal_lines deal.now) result }
 {
-    let solved = solve_after(alloc, *last, &deal.deal).map_err(|_| WriteFault::Memory)?;
-    *last = Some(solved);
-    write_text(writer, lines_with(deal, &solved.table).as_slice()).map_err(|_| WriteFault::Write)
+    let table = work
+        .solve(alloc, &deal.deal)
+        .map_err(|_| WriteFault::Memory)?;
+    write_text(writer, lines_with(deal, &table).as_slice()).map_err(|_| WriteFault::Write)
 }
 
 /// Writes what each of the deals could make, one after another as it is found: a line for each declarer, as `1 N 10 4 9 8 9`, with
@@ -41,13 +42,13 @@ fn write_deal<W: Write>(
 pub fn write_makeable<W: Write>(
     alloc: Global,
     deals: &[BoardDeal],
+    work: &mut Solving,
     writer: &mut W,
 ) -> Result<(), WriteFault>
     ensures { Written (stream W.contents writer.old writer.new) (makeable_text deals.now) result }
 {
-    let mut last = None;
     for deal in deals {
-        write_deal(alloc, deal, &mut last, writer)?;
+        write_deal(alloc, deal, work, writer)?;
     }
     Ok(())
 }

@@ -52,7 +52,7 @@ tr:nth-child(8) > td:nth-child(2):empty::before { content: "S"; }
 details { border-top: 1px solid var(--line); }
 summary { padding: .7rem 0; font-weight: bold; cursor: pointer; overflow-wrap: anywhere; }
 details > table { width: 100%; }
-details > table caption { position: static; width: auto; height: auto; clip-path: none; padding: .3rem 0; text-align: left; font-weight: bold; }
+:is(details > table, .makeable) caption { position: static; width: auto; height: auto; clip-path: none; padding: .3rem 0; text-align: left; font-weight: bold; }
 .auction { background: var(--panel); }
 .auction :is(th, td) { width: 25%; text-align: center; }
 .auction:target, .tricks td:last-child { font-weight: bold; }
@@ -81,6 +81,8 @@ body { grid-template-columns: repeat(2, minmax(0, 1fr)); }
 .sheet:not([id]) { grid-column: auto; }
 .traveller { grid-template-columns: minmax(0, 3fr) minmax(0, 2fr); }
 .traveller > :is(h3, p, .lines, details) { grid-column: 1 / -1; }
+.traveller:has(> .makeable) > h3 + p + table:not([class]) { grid-row: span 3; }
+.traveller > .makeable + p { grid-column: auto; }
 .traveller > .lines + table { align-self: center; }
 .sheet:has(> .card) { display: grid; grid-template-columns: repeat(2, minmax(0, 1fr)); gap: 0 1rem; align-items: start; }
 .sheet:has(> .card) > h2 { grid-column: 1 / -1; }
@@ -103,6 +105,8 @@ h2, h3 { break-after: avoid; }
 .traveller, .card, tr { break-inside: avoid; }
 .traveller { grid-template-columns: minmax(0, 3fr) minmax(0, 2fr); border: 0; }
 .traveller > :is(h3, p, .lines) { grid-column: 1 / -1; }
+.traveller:has(> .makeable) > h3 + p + table:not([class]) { grid-row: span 3; }
+.traveller > .makeable + p { grid-column: auto; }
 .traveller > h3 { margin: 0; font-size: 14pt; }
 .traveller > h3 + p + table:not([class]) { font-size: 14pt; }
 .traveller > .lines { font-size: 10pt; }

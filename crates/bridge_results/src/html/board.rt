@@ -1,13 +1,17 @@
-//! A board in HTML: its hands, its traveller, its frequencies, and how each table played it.
+//! A board in HTML: its hands and what could be made, its traveller, its frequencies, and how each table played it.
 ghost use Rattle.std.specs.Prelude.{◌≡◌, ◌≤◌, ◌++◌, length};
 ghost use Rattle.line_text.specs.Streams.{stream, Written};
+ghost use Rattle.bridge_results.specs.Costs.{seen};
 ghost use Rattle.bridge_results.specs.HtmlBoard.{available_on, board_start, html_hands, html_deal, html_tables, html_played, board_html};
 
+use crate::analysis::{Analysis, PlayCosts};
 use crate::html::lines::write_traveller;
 use crate::html::links::board_target;
 use crate::html::recorded::write_courses;
-use crate::pages::board::{board_words, deal_words, write_end, write_hands};
+use crate::makeable::Makeable;
+use crate::pages::board::{board_words, deal_words, write_deal as write_cards, write_end};
 use crate::pages::frequencies::write_frequencies_of;
+use crate::pages::makeable::makeable_on;
 use crate::results::Results;
 use crate::traveller::BoardLine;
 use bridge_cards::{BoardNumber, Scoring};
@@ -39,24 +43,31 @@ fn write_start<W: Write>(board: BoardNumber, writer: &mut W) -> Result<(), Error
     write_text(writer, text.as_slice())
 }
 
-/// Writes the hands of a board, once it is dealt.
+/// Writes the hands of a board, once it is dealt, and what could be made, if it is known.
 fn write_hands_of<W: Write>(
+    boards: &[Option<Makeable>],
     session: &Session,
     board: BoardNumber,
     writer: &mut W,
 ) -> Result<(), Error>
-    ensures { Written (stream W.contents writer.old writer.new) (html_hands session.now board) result }
+    ensures { Written (stream W.contents writer.old writer.new) (html_hands boards.now session.now board) result }
 {
-    write_hands(Format::Html, session.deal(board), writer)
+    let known = makeable_on(boards, board);
+    write_cards(Format::Html, board, session.deal(board), known, writer)
 }
 
-/// Writes the heading and the hands of a board.
+/// Writes the heading of a board, and its hands with what could be made.
 #[tactic(auto, using(page_layout::proofs::Walk::then_written, page_layout::proofs::Walk::failed_before))]
-fn write_deal<W: Write>(session: &Session, board: BoardNumber, writer: &mut W) -> Result<(), Error>
-    ensures { Written (stream W.contents writer.old writer.new) (html_deal session.now board) result }
+fn write_deal<W: Write>(
+    boards: &[Option<Makeable>],
+    session: &Session,
+    board: BoardNumber,
+    writer: &mut W,
+) -> Result<(), Error>
+    ensures { Written (stream W.contents writer.old writer.new) (html_deal boards.now session.now board) result }
 {
     write_start(board, writer)?;
-    write_hands_of(session, board, writer)
+    write_hands_of(boards, session, board, writer)
 }
 
 /// Writes the traveller and the frequencies of a board.
@@ -94,6 +105,7 @@ fn write_tables_of<W: Write>(
 #[tactic(auto, using(page_layout::proofs::Walk::then_written, page_layout::proofs::Walk::failed_before))]
 fn write_played<W: Write>(
     names: Option<&[PairNames]>,
+    plays: &[PlayCosts],
     session: &Session,
     results: &Results<'_>,
     board: BoardNumber,
@@ -102,10 +114,10 @@ fn write_played<W: Write>(
 ) -> Result<(), Error>
     requires results { results.now ≡ session.now }
     requires few { length lines.now ≤ 144 }
-    ensures { Written (stream W.contents writer.old writer.new) (html_played names.entry session.now board lines.now) result }
+    ensures { Written (stream W.contents writer.old writer.new) (html_played names.entry plays.now session.now board lines.now) result }
 {
     write_tables_of(session, results, board, lines, writer)?;
-    write_courses(names, session, lines, writer)?;
+    write_courses(names, plays, session, lines, writer)?;
     write_end(Format::Html, writer)
 }
 
@@ -113,6 +125,7 @@ fn write_played<W: Write>(
 #[tactic(auto, using(page_layout::proofs::Walk::then_written, page_layout::proofs::Walk::failed_before))]
 pub fn write_board<W: Write>(
     names: Option<&[PairNames]>,
+    analysis: &Analysis<'_>,
     session: &Session,
     results: &Results<'_>,
     board: BoardNumber,
@@ -121,8 +134,16 @@ pub fn write_board<W: Write>(
 ) -> Result<(), Error>
     requires results { results.now ≡ session.now }
     requires few { length lines.now ≤ 144 }
-    ensures { Written (stream W.contents writer.old writer.new) (board_html names.entry session.now board lines.now) result }
+    ensures { Written (stream W.contents writer.old writer.new) (board_html names.entry (seen analysis.now) session.now board lines.now) result }
 {
-    write_deal(session, board, writer)?;
-    write_played(names, session, results, board, lines, writer)
+    write_deal(analysis.boards, session, board, writer)?;
+    write_played(
+        names,
+        analysis.plays,
+        session,
+        results,
+        board,
+        lines,
+        writer,
+    )
 }

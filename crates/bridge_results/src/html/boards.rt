@@ -1,10 +1,13 @@
 //! The sheet of the boards in HTML.
-ghost use Rattle.std.specs.Prelude.{◌≡◌, ◌≤◌, ◌++◌, length, flat_map};
+ghost use Rattle.std.specs.Prelude.{◌≡◌, ◌≤◌, ◌++◌, codes, length, flat_map};
 ghost use Rattle.std.specs.List.{range_with_len};
 ghost use Rattle.line_text.specs.Streams.{stream, Written};
-ghost use Rattle.page_layout.specs.Page.{section_end};
+ghost use Rattle.page_layout.specs.Page.{section_end, paragraph_text};
+ghost use Rattle.page_layout.specs.declared.format.Format.TheVariants.{Html};
+ghost use Rattle.bridge_results.specs.Costs.{seen, costs_note};
 ghost use Rattle.bridge_results.specs.HtmlPage.{played_html, html_board_on, html_boards, boards_start, html_board_sheet};
 
+use crate::analysis::{Analysis, PlayCosts};
 use crate::html::board::write_board;
 use crate::pages::board::write_end;
 use crate::results::Results;
@@ -13,12 +16,13 @@ use bridge_cards::BoardNumber;
 use bridge_session::Session;
 use evening_draft::PairNames;
 use line_text::write_text;
-use page_layout::Format;
+use page_layout::{Format, PageText, push_paragraph};
 use std::io::{Error, Write};
 
 /// Writes a board with these lines, if it was played.
 fn write_played<W: Write>(
     names: Option<&[PairNames]>,
+    analysis: &Analysis<'_>,
     session: &Session,
     results: &Results<'_>,
     board: BoardNumber,
@@ -27,42 +31,52 @@ fn write_played<W: Write>(
 ) -> Result<(), Error>
     requires results { results.now ≡ session.now }
     requires few { length lines.now ≤ 144 }
-    ensures { Written (stream W.contents writer.old writer.new) (played_html names.entry session.now board lines.now) result }
+    ensures { Written (stream W.contents writer.old writer.new) (played_html names.entry (seen analysis.now) session.now board lines.now) result }
 {
     if lines.is_empty() {
         return write_text(writer, b"");
     }
-    write_board(names, session, results, board, lines, writer)
+    write_board(names, analysis, session, results, board, lines, writer)
 }
 
 /// Writes a board, if it was played.
 fn write_board_of<W: Write>(
     names: Option<&[PairNames]>,
+    analysis: &Analysis<'_>,
     session: &Session,
     results: &Results<'_>,
     board: BoardNumber,
     writer: &mut W,
 ) -> Result<(), Error>
     requires { results.now ≡ session.now }
-    ensures { Written (stream W.contents writer.old writer.new) (html_board_on names.entry session.now board) result }
+    ensures { Written (stream W.contents writer.old writer.new) (html_board_on names.entry (seen analysis.now) session.now board) result }
 {
     let lines = results.traveller(board);
-    write_played(names, session, results, board, lines.as_slice(), writer)
+    write_played(
+        names,
+        analysis,
+        session,
+        results,
+        board,
+        lines.as_slice(),
+        writer,
+    )
 }
 
 /// Writes the boards that were played, by number.
 fn write_boards<W: Write>(
     names: Option<&[PairNames]>,
+    analysis: &Analysis<'_>,
     session: &Session,
     results: &Results<'_>,
     writer: &mut W,
 ) -> Result<(), Error>
     requires { results.now ≡ session.now }
-    ensures { Written (stream W.contents writer.old writer.new) (html_boards names.entry session.now) result }
+    ensures { Written (stream W.contents writer.old writer.new) (html_boards names.entry (seen analysis.now) session.now) result }
 {
     for number in 1..37 {
         let board = BoardNumber::new(number).unwrap();
-        write_board_of(names, session, results, board, writer)?;
+        write_board_of(names, analysis, session, results, board, writer)?;
     }
     Ok(())
 }
@@ -78,18 +92,43 @@ fn write_sheet_start<W: Write>(writer: &mut W) -> Result<(), Error>
     )
 }
 
+/// What the marks behind cards say.
+fn note_text() -> PageText
+    ensures { result.items ≡ paragraph_text Html (codes "A card with -1 behind it gave a trick away, as all the cards lay.") }
+{
+    let mut text = PageText::new();
+    push_paragraph(
+        &mut text,
+        Format::Html,
+        b"A card with -1 behind it gave a trick away, as all the cards lay.",
+    );
+    text
+}
+
+/// Writes what the marks behind cards say, where there may be some.
+fn write_note<W: Write>(plays: &[PlayCosts], writer: &mut W) -> Result<(), Error>
+    ensures { Written (stream W.contents writer.old writer.new) (costs_note plays.now) result }
+{
+    if plays.is_empty() {
+        return write_text(writer, b"");
+    }
+    write_text(writer, note_text().as_slice())
+}
+
 /// Writes the sheet of the boards.
 #[tactic(auto, using(page_layout::proofs::Walk::then_written, page_layout::proofs::Walk::failed_before))]
 pub fn write_board_sheet<W: Write>(
     names: Option<&[PairNames]>,
+    analysis: &Analysis<'_>,
     session: &Session,
     results: &Results<'_>,
     writer: &mut W,
 ) -> Result<(), Error>
     requires { results.now ≡ session.now }
-    ensures { Written (stream W.contents writer.old writer.new) (html_board_sheet names.entry session.now) result }
+    ensures { Written (stream W.contents writer.old writer.new) (html_board_sheet names.entry (seen analysis.now) session.now) result }
 {
     write_sheet_start(writer)?;
-    write_boards(names, session, results, writer)?;
+    write_note(analysis.plays, writer)?;
+    write_boards(names, analysis, session, results, writer)?;
     write_end(Format::Html, writer)
 }

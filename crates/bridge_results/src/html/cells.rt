@@ -2,6 +2,7 @@
 ghost use Rattle.std.specs.Prelude.{◌≡◌, ◌+◌, ◌≤◌, ◌<◌, ◌++◌, codes, length};
 ghost use Rattle.std.specs.Fmt.{decimal};
 ghost use Rattle.bridge_auction.specs.Level.{IsLevel};
+ghost use Rattle.bridge_auction.specs.Spelling.{bid_text};
 ghost use Rattle.bridge_results.specs.HtmlCells.{doubled_marks, tricks_beside, made_cell, result_cell, shown_letter, card_cell, perhaps_card, gain_share, percent_cell};
 
 use crate::pages::cells::{CellText, contract_cell};
@@ -54,14 +55,23 @@ fn tricks_beside(level: u8, tricks: u8) -> ArrayString<12>
     }
 }
 
+/// A bid and its doubling, as `4Sx`.
+pub fn doubled_bid(contract: &Contract) -> CellText
+    ensures text { result.bytes ≡ bid_text contract.now.bid ++ doubled_marks contract.now.doubling }
+    ensures short { length result.bytes ≤ 5 }
+{
+    let mut text = CellText::new();
+    print_bid(contract.bid, &mut text);
+    text.push_str(doubled_marks(contract.doubling));
+    text
+}
+
 /// A contract and what came of it, as `4Sx-2`.
 fn made_cell(contract: &Contract, tricks: u8) -> CellText
     ensures text { result.bytes ≡ made_cell contract.now tricks }
     ensures short { length result.bytes ≤ 17 }
 {
-    let mut text = CellText::new();
-    print_bid(contract.bid, &mut text);
-    text.push_str(doubled_marks(contract.doubling));
+    let mut text = doubled_bid(contract);
     text.push_str(tricks_beside(contract.bid.level.number(), tricks).as_str());
     text
 }

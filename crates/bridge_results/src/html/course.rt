@@ -124,15 +124,16 @@ fn write_auction<W: Write>(play: &TablePlay, auction: &Auction, writer: &mut W) 
 /// Writes the auction and the play.
 #[tactic(auto, using(page_layout::proofs::Walk::then_written, page_layout::proofs::Walk::failed_before))]
 fn write_calls_and_cards<W: Write>(
+    costs: &[u8],
     play: &TablePlay,
     auction: &Auction,
     played: Option<&Play>,
     writer: &mut W,
 ) -> Result<(), Error>
-    ensures { Written (stream W.contents writer.old writer.new) (calls_and_cards play.now auction.now (option_copied played.entry)) result }
+    ensures { Written (stream W.contents writer.old writer.new) (calls_and_cards costs.now play.now auction.now (option_copied played.entry)) result }
 {
     write_auction(play, auction, writer)?;
-    write_play_part(played, writer)?;
+    write_play_part(costs, played, writer)?;
     write_text(writer, b"</details>\n")
 }
 
@@ -140,14 +141,15 @@ fn write_calls_and_cards<W: Write>(
 #[tactic(auto, using(page_layout::proofs::Walk::then_written, page_layout::proofs::Walk::failed_before))]
 pub fn write_course<W: Write>(
     names: Option<&[PairNames]>,
+    costs: &[u8],
     pairs: &[PairFields],
     play: &TablePlay,
     auction: &Auction,
     played: Option<&Play>,
     writer: &mut W,
 ) -> Result<(), Error>
-    ensures { Written (stream W.contents writer.old writer.new) (course_html names.entry (map pair_of pairs.now) play.now auction.now (option_copied played.entry)) result }
+    ensures { Written (stream W.contents writer.old writer.new) (course_html names.entry costs.now (map pair_of pairs.now) play.now auction.now (option_copied played.entry)) result }
 {
     write_summary(names, pairs, play, writer)?;
-    write_calls_and_cards(play, auction, played, writer)
+    write_calls_and_cards(costs, play, auction, played, writer)
 }

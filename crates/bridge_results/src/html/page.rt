@@ -2,8 +2,10 @@
 ghost use Rattle.std.specs.Prelude.{◌≡◌, ◌++◌};
 ghost use Rattle.line_text.specs.Streams.{stream, Written};
 ghost use Rattle.bridge_results.specs.RankingText.{ranked_items};
+ghost use Rattle.bridge_results.specs.Costs.{seen};
 ghost use Rattle.bridge_results.specs.HtmlPage.{page_html};
 
+use crate::analysis::Analysis;
 use crate::html::boards::write_board_sheet;
 use crate::html::cards::write_card_sheet;
 use crate::html::front::write_front;
@@ -16,6 +18,7 @@ use std::io::{Error, Write};
 #[tactic(auto, using(page_layout::proofs::Walk::then_written, page_layout::proofs::Walk::failed_before))]
 pub fn write_html<W: Write>(
     names: Option<&[PairNames]>,
+    analysis: &Analysis<'_>,
     session: &Session,
     results: &Results<'_>,
     first: &Option<Ranking>,
@@ -23,9 +26,9 @@ pub fn write_html<W: Write>(
     writer: &mut W,
 ) -> Result<(), Error>
     requires { results.now ≡ session.now }
-    ensures { Written (stream W.contents writer.old writer.new) (page_html names.entry session.now (ranked_items first.now) (ranked_items second.now)) result }
+    ensures { Written (stream W.contents writer.old writer.new) (page_html names.entry (seen analysis.now) session.now (ranked_items first.now) (ranked_items second.now)) result }
 {
     write_front(session.config(), names, first, second, writer)?;
-    write_board_sheet(names, session, results, writer)?;
+    write_board_sheet(names, analysis, session, results, writer)?;
     write_card_sheet(names, session, results, first, second, writer)
 }

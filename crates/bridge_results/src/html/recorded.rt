@@ -7,6 +7,7 @@ ghost use Rattle.session_rules.specs.State.{record_of};
 ghost use Rattle.bridge_results.specs.HtmlBoard.{line_course, courses_html};
 ghost use Rattle.bridge_results.specs.HtmlCourse.{id_by, is_id, shown_id, course_html, found_html, course_on};
 
+use crate::analysis::{PlayCosts, costs_at};
 use crate::html::course::write_course;
 use crate::play::TablePlay;
 use crate::traveller::BoardLine;
@@ -26,7 +27,7 @@ fn is_id(round: u8, table: u8, index: u16) -> bool
 }
 
 /// The play of a line, where its numbers are those of a play.
-fn shown_id(config: &Config, play: &TablePlay) -> Option<PlayId>
+pub fn shown_id(config: &Config, play: &TablePlay) -> Option<PlayId>
     ensures { result ≡ shown_id config.now play.now }
 {
     let row = play.row;
@@ -42,33 +43,35 @@ fn shown_id(config: &Config, play: &TablePlay) -> Option<PlayId>
     })
 }
 
-/// Writes how a play went, with the names of a list or a configuration's.
+/// Writes how a play went, with the names of a list or a configuration's, and with what its cards cost, where it is known.
 fn write_course_by<W: Write>(
     names: Option<&[PairNames]>,
+    costs: &[u8],
     config: &Config,
     play: &TablePlay,
     known: &Entry<'_>,
     writer: &mut W,
 ) -> Result<(), Error>
-    ensures { Written (stream W.contents writer.old writer.new) (course_html names.entry config.now.pairs play.now known.now.auction.now (option_copied known.now.play)) result }
+    ensures { Written (stream W.contents writer.old writer.new) (course_html names.entry costs.now config.now.pairs play.now known.now.auction.now (option_copied known.now.play)) result }
 {
     let fields = config.fields();
     let pairs = fields.pairs.as_slice();
-    write_course(names, pairs, play, known.auction, known.play, writer)
+    write_course(names, costs, pairs, play, known.auction, known.play, writer)
 }
 
 /// Writes how the play went by its record, if there is one.
 fn write_found<W: Write>(
     names: Option<&[PairNames]>,
+    costs: &[u8],
     session: &Session,
     play: &TablePlay,
     id: PlayId,
     writer: &mut W,
 ) -> Result<(), Error>
-    ensures { Written (stream W.contents writer.old writer.new) (found_html names.entry session.now play.now (record_of session.now id)) result }
+    ensures { Written (stream W.contents writer.old writer.new) (found_html names.entry costs.now session.now play.now (record_of session.now id)) result }
 {
     match session.entry(id) {
-        Some(known) => write_course_by(names, session.config(), play, &known, writer),
+        Some(known) => write_course_by(names, costs, session.config(), play, &known, writer),
         None => write_text(writer, b""),
     }
 }
@@ -76,14 +79,15 @@ fn write_found<W: Write>(
 /// Writes how the play of a line went.
 fn write_course_on<W: Write>(
     names: Option<&[PairNames]>,
+    costs: &[u8],
     session: &Session,
     play: &TablePlay,
     writer: &mut W,
 ) -> Result<(), Error>
-    ensures { Written (stream W.contents writer.old writer.new) (course_on names.entry session.now play.now) result }
+    ensures { Written (stream W.contents writer.old writer.new) (course_on names.entry costs.now session.now play.now) result }
 {
     match shown_id(session.config(), play) {
-        Some(id) => write_found(names, session, play, id, writer),
+        Some(id) => write_found(names, costs, session, play, id, writer),
         None => write_text(writer, b""),
     }
 }
@@ -91,26 +95,29 @@ fn write_course_on<W: Write>(
 /// Writes how the play of a line of a traveller went.
 fn write_line_course<W: Write>(
     names: Option<&[PairNames]>,
+    plays: &[PlayCosts],
     session: &Session,
     line: &BoardLine,
     writer: &mut W,
 ) -> Result<(), Error>
-    ensures { Written (stream W.contents writer.old writer.new) (line_course names.entry session.now line.now) result }
+    ensures { Written (stream W.contents writer.old writer.new) (line_course names.entry plays.now session.now line.now) result }
 {
-    write_course_on(names, session, &line.play, writer)
+    let costs = costs_at(plays, &line.play);
+    write_course_on(names, costs, session, &line.play, writer)
 }
 
 /// Writes how each table played a board.
 pub fn write_courses<W: Write>(
     names: Option<&[PairNames]>,
+    plays: &[PlayCosts],
     session: &Session,
     lines: &[BoardLine],
     writer: &mut W,
 ) -> Result<(), Error>
-    ensures { Written (stream W.contents writer.old writer.new) (courses_html names.entry session.now lines.now) result }
+    ensures { Written (stream W.contents writer.old writer.new) (courses_html names.entry plays.now session.now lines.now) result }
 {
     for line in lines {
-        write_line_course(names, session, line, writer)?;
+        write_line_course(names, plays, session, line, writer)?;
     }
     Ok(())
 }

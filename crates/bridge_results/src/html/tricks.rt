@@ -1,10 +1,11 @@
 //! The play of a board at a table in HTML, trick by trick.
-ghost use Rattle.std.specs.Prelude.{◌≡◌, ◌+◌, ◌≤◌, ◌<◌, ◌++◌, length, flat_map, slice_get, option_and_then};
+ghost use Rattle.std.specs.Prelude.{◌≡◌, ◌+◌, ◌≤◌, ◌<◌, ◌++◌, [], length, flat_map, slice_get, codes, option_and_then};
 ghost use Rattle.std.specs.List.{range_with_len};
-ghost use Rattle.std.specs.Option.{option_copied};
+ghost use Rattle.std.specs.Option.{option_copied, option_map_or};
 ghost use Rattle.line_text.specs.Streams.{stream, Written};
 ghost use Rattle.bridge_play.specs.Trick.{whole_tricks};
 ghost use Rattle.bridge_results.specs.HtmlCells.{perhaps_card};
+ghost use Rattle.bridge_results.specs.Costs.{cost_mark, marked_card};
 ghost use Rattle.bridge_results.specs.HtmlCourse.{fours, winner_cell, trick_row, tricks_head, trick_rows, claim_words, agreed_claim, claim_html, play_end, play_html, play_part};
 
 use crate::html::cells::perhaps_card;
@@ -19,12 +20,55 @@ use page_layout::{
 };
 use std::io::{Error, Write};
 
+/// The tricks that a card gave away, if it gave any.
+fn cost_mark(cost: u8) -> ArrayString<12>
+    ensures text { result.bytes ≡ cost_mark cost }
+    ensures short { length result.bytes ≤ 12 }
+{
+    let mut text = ArrayString::new();
+    if cost != 0 {
+        text.push_str(" -");
+        text.push_str(number_text(u32::from(cost)).as_str());
+    }
+    text
+}
+
+/// The same, if it is known.
+fn perhaps_mark(cost: Option<u8>) -> ArrayString<12>
+    ensures text { result.bytes ≡ option_map_or cost_mark cost [] }
+    ensures short { length result.bytes ≤ 12 }
+{
+    match cost {
+        Some(cost) => cost_mark(cost),
+        None => ArrayString::new(),
+    }
+}
+
+/// The tricks that the card at an index gave away, if it gave any and that is known.
+fn mark_at(costs: &[u8], index: usize) -> ArrayString<12>
+    ensures text { result.bytes ≡ option_map_or cost_mark (slice_get costs.now index) [] }
+    ensures short { length result.bytes ≤ 12 }
+{
+    perhaps_mark(costs.get(index).copied())
+}
+
 /// The card at an index, if so many were played.
 fn card_at(play: &Play, index: usize) -> CellText
     ensures text { result.bytes ≡ perhaps_card (slice_get play.now.cards index) }
     ensures short { length result.bytes ≤ 22 }
 {
     perhaps_card(play.cards().get(index).copied())
+}
+
+/// The same, and the tricks that it gave away.
+fn marked_card(play: &Play, costs: &[u8], index: usize) -> ArrayString<40>
+    ensures text { result.bytes ≡ marked_card play.now.cards costs.now index }
+    ensures short { length result.bytes ≤ 40 }
+{
+    let mut text = ArrayString::new();
+    text.push_str(card_at(play, index).as_str());
+    text.push_str(mark_at(costs, index).as_str());
+    text
 }
 
 /// Who won a trick, the tricks counted from 0.
@@ -40,14 +84,21 @@ fn winner_cell(play: &Play, trick: usize) -> &'static str
 }
 
 /// Writes a trick, counted from 0.
-fn write_trick<W: Write>(play: &Play, trick: usize, writer: &mut W) -> Result<(), Error>
+fn write_trick<W: Write>(
+    play: &Play,
+    costs: &[u8],
+    trick: usize,
+    writer: &mut W,
+) -> Result<(), Error>
     requires there { trick ≤ whole_tricks play.now.cards }
     requires few { trick ≤ 13 }
-    ensures { Written (stream W.contents writer.old writer.new) (trick_row play.now.contract play.now.cards trick) result }
+    ensures { Written (stream W.contents writer.old writer.new) (trick_row play.now.contract play.now.cards costs.now trick) result }
 {
     let number = number_text(trick as u32 + 1);
-    let (first, second) = (card_at(play, 4 * trick), card_at(play, 4 * trick + 1));
-    let (third, fourth) = (card_at(play, 4 * trick + 2), card_at(play, 4 * trick + 3));
+    let first = marked_card(play, costs, 4 * trick);
+    let second = marked_card(play, costs, 4 * trick + 1);
+    let third = marked_card(play, costs, 4 * trick + 2);
+    let fourth = marked_card(play, costs, 4 * trick + 3);
     let cells = [
         number.as_str().as_bytes(),
         seat_text(play.leader(trick)).as_bytes(),
@@ -64,11 +115,11 @@ fn write_trick<W: Write>(play: &Play, trick: usize, writer: &mut W) -> Result<()
 }
 
 /// Writes the tricks.
-fn write_tricks<W: Write>(play: &Play, writer: &mut W) -> Result<(), Error>
-    ensures { Written (stream W.contents writer.old writer.new) (trick_rows play.now.contract play.now.cards) result }
+fn write_tricks<W: Write>(play: &Play, costs: &[u8], writer: &mut W) -> Result<(), Error>
+    ensures { Written (stream W.contents writer.old writer.new) (trick_rows play.now.contract play.now.cards costs.now) result }
 {
     for trick in 0..(play.cards().len() + 3) / 4 {
-        write_trick(play, trick, writer)?;
+        write_trick(play, costs, trick, writer)?;
     }
     Ok(())
 }
@@ -145,20 +196,24 @@ fn write_play_end<W: Write>(play: &Play, writer: &mut W) -> Result<(), Error>
 
 /// Writes the play.
 #[tactic(auto, using(page_layout::proofs::Walk::then_written, page_layout::proofs::Walk::failed_before))]
-fn write_play<W: Write>(play: &Play, writer: &mut W) -> Result<(), Error>
-    ensures { Written (stream W.contents writer.old writer.new) (play_html play.now) result }
+fn write_play<W: Write>(costs: &[u8], play: &Play, writer: &mut W) -> Result<(), Error>
+    ensures { Written (stream W.contents writer.old writer.new) (play_html costs.now play.now) result }
 {
     write_tricks_head(writer)?;
-    write_tricks(play, writer)?;
+    write_tricks(play, costs, writer)?;
     write_play_end(play, writer)
 }
 
 /// Writes the play, once there was a contract.
-pub fn write_play_part<W: Write>(play: Option<&Play>, writer: &mut W) -> Result<(), Error>
-    ensures { Written (stream W.contents writer.old writer.new) (play_part (option_copied play.entry)) result }
+pub fn write_play_part<W: Write>(
+    costs: &[u8],
+    play: Option<&Play>,
+    writer: &mut W,
+) -> Result<(), Error>
+    ensures { Written (stream W.contents writer.old writer.new) (play_part costs.now (option_copied play.entry)) result }
 {
     match play {
-        Some(play) => write_play(play, writer),
+        Some(play) => write_play(costs, play, writer),
         None => write_text(writer, b""),
     }
 }

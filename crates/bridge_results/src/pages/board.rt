@@ -1,19 +1,21 @@
-//! A board: its hands, its traveller and its frequencies.
+//! A board: its hands and what could be made, its traveller and its frequencies.
 ghost use Rattle.std.specs.Prelude.{◌≡◌, ◌≤◌, length, flat_map};
 ghost use Rattle.std.specs.Option.{option_copied};
 ghost use Rattle.line_text.specs.Streams.{stream, Written};
 ghost use Rattle.page_layout.specs.Page.{section_end};
 ghost use Rattle.page_layout.specs.Table.{table_end};
 ghost use Rattle.bridge_results.specs.Frequencies.{frequencies_of};
-ghost use Rattle.bridge_results.specs.BoardText.{board_words, deal_words, board_head, side_gain, line_row, line_titles, traveller_text, frequencies_text, hands_text, board_tables, board_text};
+ghost use Rattle.bridge_results.specs.BoardText.{board_words, deal_words, board_head, side_gain, line_row, line_titles, traveller_text, frequencies_text, hands_text, deal_text, board_tables, board_text};
 
 use crate::compare::Comparison;
+use crate::makeable::Makeable;
 use crate::pages::cells::{
     contract_cell, declarer_cell, gain_cell, lead_cell, line_score, score_cell, tricks_cell,
 };
 use crate::pages::columns::LINE_COLUMNS;
 use crate::pages::diagram::diagram_text;
 use crate::pages::frequencies::write_frequencies_of;
+use crate::pages::makeable::write_known;
 use crate::traveller::BoardLine;
 use arrayvec::ArrayString;
 use bridge_cards::{
@@ -184,17 +186,28 @@ fn write_lines<W: Write>(
 }
 
 /// Writes the hands of a board, once it is dealt.
-pub fn write_hands<W: Write>(
-    format: Format,
-    deal: Option<&Deal>,
-    writer: &mut W,
-) -> Result<(), Error>
+fn write_hands<W: Write>(format: Format, deal: Option<&Deal>, writer: &mut W) -> Result<(), Error>
     ensures { Written (stream W.contents writer.old writer.new) (hands_text format (option_copied deal.entry)) result }
 {
     match deal {
         Some(deal) => write_text(writer, diagram_text(format, deal).as_slice()),
         None => write_text(writer, b""),
     }
+}
+
+/// Writes the hands of a board, and what could be made, if it is known.
+#[tactic(auto, using(page_layout::proofs::Walk::then_written, page_layout::proofs::Walk::failed_before))]
+pub fn write_deal<W: Write>(
+    format: Format,
+    board: BoardNumber,
+    deal: Option<&Deal>,
+    known: Option<Makeable>,
+    writer: &mut W,
+) -> Result<(), Error>
+    ensures { Written (stream W.contents writer.old writer.new) (deal_text format board (option_copied deal.entry) known) result }
+{
+    write_hands(format, deal, writer)?;
+    write_known(format, board, known, writer)
 }
 
 /// Writes what ends the section of a board.
@@ -229,13 +242,14 @@ pub fn write_board<W: Write>(
     scoring: Scoring,
     board: BoardNumber,
     deal: Option<&Deal>,
+    known: Option<Makeable>,
     lines: &[BoardLine],
     writer: &mut W,
 ) -> Result<(), Error>
     requires { length lines.now ≤ 144 }
-    ensures { Written (stream W.contents writer.old writer.new) (board_text format scoring board (option_copied deal.entry) lines.now) result }
+    ensures { Written (stream W.contents writer.old writer.new) (board_text format scoring board (option_copied deal.entry) known lines.now) result }
 {
     write_head(format, board, writer)?;
-    write_hands(format, deal, writer)?;
+    write_deal(format, board, deal, known, writer)?;
     write_tables(format, scoring, lines, writer)
 }

@@ -17,8 +17,9 @@ use session_rules::{Average, Outcome};
 pub type CellText = ArrayString<22>;
 
 /// The bid and its doubling, as `4HXX`.
-fn bid_cell(contract: &Contract) -> CellText
-    ensures { result.bytes ≡ bid_text contract.now.bid ++ doubling_text contract.now.doubling }
+pub fn bid_cell(contract: &Contract) -> CellText
+    ensures text { result.bytes ≡ bid_text contract.now.bid ++ doubling_text contract.now.doubling }
+    ensures short { length result.bytes ≤ 22 }
 {
     let mut text = CellText::new();
     print_bid(contract.bid, &mut text);

@@ -2,7 +2,7 @@
 ghost use Rattle.std.specs.Prelude.{◌≡◌, ◌≤◌, ◌∷◌, [], map};
 ghost use Rattle.page_layout.specs.declared.format.Column.{Column as ColumnType};
 ghost use Rattle.page_layout.specs.declared.format.Content.TheVariants.{Words, Cards};
-ghost use Rattle.bridge_results.specs.declared.pages.columns.TheConstants.{SHARE_COLUMNS as share_columns, SUM_COLUMNS as sum_columns, LINE_COLUMNS as line_columns, FREQUENCY_COLUMNS as frequency_columns, CARD_COLUMNS as card_columns, HAND_COLUMNS as hand_columns};
+ghost use Rattle.bridge_results.specs.declared.pages.columns.TheConstants.{SHARE_COLUMNS as share_columns, SUM_COLUMNS as sum_columns, LINE_COLUMNS as line_columns, FREQUENCY_COLUMNS as frequency_columns, CARD_COLUMNS as card_columns, HAND_COLUMNS as hand_columns, MAKEABLE_COLUMNS as makeable_columns};
 ghost use Rattle.bridge_results.specs.Columns.{width_of};
 
 use page_layout::columns::{LETTERS, NUMBER, SMALL};
@@ -37,6 +37,13 @@ const CARD: Column = Column {
     width: 4,
     align: Align::Left,
     content: Content::Cards,
+};
+
+/// The letter of a seat, under a title of words.
+const SEAT: Column = Column {
+    width: 11,
+    align: Align::Left,
+    content: Content::Words,
 };
 
 /// The cards of a hand in a suit.
@@ -75,6 +82,9 @@ pub const CARD_COLUMNS: [Column; 9] = [
 /// Of a diagram of hands: West, North and South, East.
 pub const HAND_COLUMNS: [Column; 3] = [SUIT, SUIT, LAST_SUIT];
 
+/// Of what could be made: the declarer, and the tricks in clubs, diamonds, hearts, spades and no trump.
+pub const MAKEABLE_COLUMNS: [Column; 6] = [SEAT, SMALL, SMALL, SMALL, SMALL, SMALL];
+
 /// Contracts, leads and the cards of hands stand in columns in which the letters S, H, D and C are suits, and nothing else of
 /// these tables does.
 pub fn suits_stand_in_columns_of_cards()
@@ -84,6 +94,7 @@ pub fn suits_stand_in_columns_of_cards()
     ensures frequencies { map (λ (column : ColumnType). column.content) frequency_columns ≡ Words ∷ Words ∷ Words ∷ Words ∷ [] }
     ensures card { map (λ (column : ColumnType). column.content) card_columns ≡ Words ∷ Words ∷ Words ∷ Words ∷ Cards ∷ Words ∷ Words ∷ Words ∷ Words ∷ [] }
     ensures hands { map (λ (column : ColumnType). column.content) hand_columns ≡ Cards ∷ Cards ∷ Cards ∷ [] }
+    ensures makeable { map (λ (column : ColumnType). column.content) makeable_columns ≡ Words ∷ Words ∷ Words ∷ Words ∷ Words ∷ Words ∷ [] }
 {}
 
 /// The columns of each table take at most 100 bytes of a line of plain text.
@@ -91,4 +102,5 @@ pub fn tables_are_narrow()
     ensures rankings { (width_of share_columns ≤ 100) × (width_of sum_columns ≤ 100) }
     ensures boards { (width_of line_columns ≤ 100) × (width_of frequency_columns ≤ 100) × (width_of hand_columns ≤ 100) }
     ensures cards { width_of card_columns ≤ 100 }
+    ensures makeable { width_of makeable_columns ≤ 100 }
 {}

@@ -6,9 +6,12 @@ ghost use Rattle.bridge_ranking.specs.declared.field.Field.TheVariants.{First, S
 ghost use Rattle.page_layout.specs.Page.{page_end};
 ghost use Rattle.bridge_results.specs.EventText.{event_text};
 ghost use Rattle.bridge_results.specs.RankingText.{ranked_items, field_text};
+ghost use Rattle.bridge_results.specs.Costs.{seen};
 ghost use Rattle.bridge_results.specs.ResultsText.{ranked_text, rankings_text, front_text, sheets_text, plain_page, IsFieldRanking, WritesPage, WritesNamedPage};
 
+use crate::analysis::Analysis;
 use crate::html::write_html;
+use crate::makeable::Makeable;
 use crate::pages::event::event_text;
 use crate::pages::ranking::write_field;
 use crate::pages::sheets::{write_board_sheet, write_card_sheet};
@@ -93,14 +96,15 @@ fn write_rankings<W: Write>(
 fn write_sheets<W: Write>(
     format: Format,
     names: Option<&[PairNames]>,
+    boards: &[Option<Makeable>],
     session: &Session,
     results: &Results<'_>,
     writer: &mut W,
 ) -> Result<(), Error>
     requires { results.now ≡ session.now }
-    ensures { Written (stream W.contents writer.old writer.new) (sheets_text format names.entry session.now) result }
+    ensures { Written (stream W.contents writer.old writer.new) (sheets_text format names.entry boards.now session.now) result }
 {
-    write_board_sheet(format, session, results, writer)?;
+    write_board_sheet(format, boards, session, results, writer)?;
     write_card_sheet(format, names, session, results, writer)?;
     write_page_end(format, writer)
 }
@@ -125,6 +129,7 @@ fn write_front<W: Write>(
 #[tactic(auto, using(page_layout::proofs::Walk::then_written, page_layout::proofs::Walk::failed_before))]
 fn write_page<W: Write>(
     names: Option<&[PairNames]>,
+    boards: &[Option<Makeable>],
     session: &Session,
     results: &Results<'_>,
     first: &Option<Ranking>,
@@ -132,7 +137,7 @@ fn write_page<W: Write>(
     writer: &mut W,
 ) -> Result<(), Error>
     requires { results.now ≡ session.now }
-    ensures { Written (stream W.contents writer.old writer.new) (plain_page names.entry session.now (ranked_items first.now) (ranked_items second.now)) result }
+    ensures { Written (stream W.contents writer.old writer.new) (plain_page names.entry boards.now session.now (ranked_items first.now) (ranked_items second.now)) result }
 {
     write_front(
         Format::Plain,
@@ -142,7 +147,7 @@ fn write_page<W: Write>(
         second,
         writer,
     )?;
-    write_sheets(Format::Plain, names, session, results, writer)
+    write_sheets(Format::Plain, names, boards, session, results, writer)
 }
 
 /// Writes the results of the session as a page: the event, the ranking of each field, each board that was played with its
@@ -157,23 +162,38 @@ pub fn write_results<W: Write>(
 ) -> Result<(), Error>
     ensures { WritesPage (stream W.contents writer.old writer.new) format session.now result }
 {
-    write_results_with(session, None, format, writer)
+    let analysis = Analysis {
+        boards: &[],
+        plays: &[],
+    };
+    write_results_with(session, None, &analysis, format, writer)
 }
 
-/// The same with the names of a list in place of the configuration's, by pair and player, where a list is given.
+/// The same with the names of a list in place of the configuration's, by pair and player, where a list is given, and below the
+/// hands of a board what could be made on it and par, where the analysis tells; in HTML with marks behind the cards that gave
+/// tricks away, likewise.
 pub fn write_results_with<W: Write>(
     session: &Session,
     names: Option<&[PairNames]>,
+    analysis: &Analysis<'_>,
     format: Format,
     writer: &mut W,
 ) -> Result<(), Error>
-    ensures { WritesNamedPage (stream W.contents writer.old writer.new) format names.entry session.now result }
+    ensures { WritesNamedPage (stream W.contents writer.old writer.new) format names.entry (seen analysis.now) session.now result }
 {
     let results = Results::new(session);
     let first = results.ranking(Field::First);
     let second = results.ranking(Field::Second);
     match format {
-        Format::Plain => write_page(names, session, &results, &first, &second, writer),
-        Format::Html => write_html(names, session, &results, &first, &second, writer),
+        Format::Plain => write_page(
+            names,
+            analysis.boards,
+            session,
+            &results,
+            &first,
+            &second,
+            writer,
+        ),
+        Format::Html => write_html(names, analysis, session, &results, &first, &second, writer),
     }
 }

@@ -7,7 +7,9 @@ ghost use Rattle.bridge_results.specs.CardText.{score_card_text};
 ghost use Rattle.bridge_results.specs.ResultsText.{sheet_head, played_text, board_on, all_boards, boards_text, card_on, all_cards, cards_text};
 
 use crate::card::CardLine;
+use crate::makeable::Makeable;
 use crate::pages::board::write_board;
+use crate::pages::makeable::makeable_on;
 use crate::pages::pair_card::write_card;
 use crate::results::Results;
 use crate::traveller::BoardLine;
@@ -44,49 +46,54 @@ fn write_sheet_end<W: Write>(format: Format, writer: &mut W) -> Result<(), Error
 /// Writes a board with these lines, if it was played.
 fn write_played<W: Write>(
     format: Format,
+    analysis: &[Option<Makeable>],
     session: &Session,
     board: BoardNumber,
     lines: &[BoardLine],
     writer: &mut W,
 ) -> Result<(), Error>
     requires { length lines.now ≤ 144 }
-    ensures { Written (stream W.contents writer.old writer.new) (played_text format session.now board lines.now) result }
+    ensures { Written (stream W.contents writer.old writer.new) (played_text format analysis.now session.now board lines.now) result }
 {
     if lines.is_empty() {
         return write_text(writer, b"");
     }
     let scoring = session.config().fields().scoring;
-    write_board(format, scoring, board, session.deal(board), lines, writer)
+    let known = makeable_on(analysis, board);
+    let deal = session.deal(board);
+    write_board(format, scoring, board, deal, known, lines, writer)
 }
 
 /// Writes a board, if it was played.
 fn write_board_of<W: Write>(
     format: Format,
+    analysis: &[Option<Makeable>],
     session: &Session,
     results: &Results<'_>,
     board: BoardNumber,
     writer: &mut W,
 ) -> Result<(), Error>
     requires { results.now ≡ session.now }
-    ensures { Written (stream W.contents writer.old writer.new) (board_on format session.now board) result }
+    ensures { Written (stream W.contents writer.old writer.new) (board_on format analysis.now session.now board) result }
 {
     let lines = results.traveller(board);
-    write_played(format, session, board, lines.as_slice(), writer)
+    write_played(format, analysis, session, board, lines.as_slice(), writer)
 }
 
 /// Writes the boards that were played, by number.
 fn write_boards<W: Write>(
     format: Format,
+    analysis: &[Option<Makeable>],
     session: &Session,
     results: &Results<'_>,
     writer: &mut W,
 ) -> Result<(), Error>
     requires { results.now ≡ session.now }
-    ensures { Written (stream W.contents writer.old writer.new) (all_boards format session.now) result }
+    ensures { Written (stream W.contents writer.old writer.new) (all_boards format analysis.now session.now) result }
 {
     for number in 1..37 {
         let board = BoardNumber::new(number).unwrap();
-        write_board_of(format, session, results, board, writer)?;
+        write_board_of(format, analysis, session, results, board, writer)?;
     }
     Ok(())
 }
@@ -95,15 +102,16 @@ fn write_boards<W: Write>(
 #[tactic(auto, using(page_layout::proofs::Walk::then_written, page_layout::proofs::Walk::failed_before))]
 pub fn write_board_sheet<W: Write>(
     format: Format,
+    analysis: &[Option<Makeable>],
     session: &Session,
     results: &Results<'_>,
     writer: &mut W,
 ) -> Result<(), Error>
     requires { results.now ≡ session.now }
-    ensures { Written (stream W.contents writer.old writer.new) (boards_text format session.now) result }
+    ensures { Written (stream W.contents writer.old writer.new) (boards_text format analysis.now session.now) result }
 {
     write_sheet_head(format, b"Boards", writer)?;
-    write_boards(format, session, results, writer)?;
+    write_boards(format, analysis, session, results, writer)?;
     write_sheet_end(format, writer)
 }
 

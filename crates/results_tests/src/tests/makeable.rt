@@ -1,7 +1,7 @@
 //! A deal that was worked out by hand, texts that are refused, and a reader that fails.
 use bridge_cards::{Seat, Vulnerability};
 use makeable_deals::{
-    DealsFault, DealsRefused, MakeableFault, MakeableForm, makeable_of_reader, read_deals,
+    DealsFault, DealsRefused, MakeableFault, MakeableForm, Progress, makeable_of_reader, read_deals,
 };
 use std::alloc::Global;
 use std::io::{self, Error, ErrorKind, Read};
@@ -29,6 +29,7 @@ fn a_suit_in_each_hand(rt: HostRuntime) -> Result<(), Fail> {
     let made = makeable_of_reader(
         alloc,
         MakeableForm::Lines,
+        Progress::silent(),
         &mut text.as_str().as_bytes(),
         &mut written,
     );
@@ -72,7 +73,13 @@ fn games_with_tags(rt: HostRuntime) -> Result<(), Fail> {
     )?;
     let mut written = Vec::<u8>::new(alloc);
     let form = MakeableForm::Games;
-    let made = makeable_of_reader(alloc, form, &mut games.as_str().as_bytes(), &mut written);
+    let made = makeable_of_reader(
+        alloc,
+        form,
+        Progress::silent(),
+        &mut games.as_str().as_bytes(),
+        &mut written,
+    );
     assert_eq!(&rt; made, Ok(()));
     let second = TAGS.replace(alloc, "1510", "2210")?;
     let second = second.as_str();
@@ -163,7 +170,13 @@ impl Read for Broken {
 fn a_read_that_fails(rt: HostRuntime) -> Result<(), Fail> {
     let mut written = Vec::<u8>::new(rt.alloc());
     let mut broken = Broken { given: false };
-    let made = makeable_of_reader(rt.alloc(), MakeableForm::Games, &mut broken, &mut written);
+    let made = makeable_of_reader(
+        rt.alloc(),
+        MakeableForm::Games,
+        Progress::silent(),
+        &mut broken,
+        &mut written,
+    );
     assert_eq!(&rt; made, Err(MakeableFault::Read));
     assert_eq!(&rt; written.len(), 0);
     Ok(())

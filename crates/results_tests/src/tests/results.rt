@@ -1,5 +1,6 @@
 //! Worked results of three tables, three rounds and three boards, each worked out by hand from the Laws.
 mod html;
+mod makeable;
 mod pages;
 mod script;
 mod tables;

@@ -1,7 +1,7 @@
 //! Pages of the worked session: rows that were worked out by hand.
 use super::script::{MATCHPOINTS, dealt, round_1, round_2, round_3};
 use arrayvec::ArrayString;
-use bridge_results::{write_results, write_results_with};
+use bridge_results::{Analysis, write_results, write_results_with};
 use bridge_session::Session;
 use evening_draft::PairNames;
 use page_layout::Format;
@@ -14,6 +14,15 @@ pub fn page_shown(session: &Session, alloc: Global, format: Format) -> Result<Ve
     let mut page = Vec::new(alloc);
     write_results(session, format, &mut page)?;
     Ok(page)
+}
+
+/// Three rounds of a configuration.
+pub fn played(rt: &impl Abort, alloc: Global, config: &str) -> Result<Session, Fail> {
+    let mut session = dealt(rt, alloc, config)?;
+    round_1(rt, &mut session);
+    round_2(rt, &mut session);
+    round_3(rt, &mut session);
+    Ok(session)
 }
 
 /// The page of three rounds of a configuration.
@@ -33,15 +42,16 @@ fn page_with(
     names: Option<&[PairNames]>,
     format: Format,
 ) -> Result<Vec<u8>, Fail> {
-    let mut session = dealt(rt, alloc, config)?;
-    round_1(rt, &mut session);
-    round_2(rt, &mut session);
-    round_3(rt, &mut session);
+    let session = played(rt, alloc, config)?;
     if names.is_none() {
         return page_shown(&session, alloc, format);
     }
     let mut page = Vec::new(alloc);
-    write_results_with(&session, names, format, &mut page)?;
+    let analysis = Analysis {
+        boards: &[],
+        plays: &[],
+    };
+    write_results_with(&session, names, &analysis, format, &mut page)?;
     Ok(page)
 }
 

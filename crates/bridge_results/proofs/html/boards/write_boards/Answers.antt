@@ -1,4 +1,5 @@
 use Rattle.std.proofs.Common.{arith}
+use Rattle.bridge_results.specs.Costs.{seen}
 use Rattle.bridge_results.specs.HtmlPage.{html_board_on, html_boards}
 use Rattle.bridge_results.proofs.WrittenRows.{number_taken, number_failed, numbers_taken}
 use Rattle.bridge_results.proofs.html.boards.write_boards.Goals as goal
@@ -7,7 +8,7 @@ pub returns-in_err-write_board_of : goal.returns-in_err-write_board_of
 unfolding html_boards
 returns-in_err-write_board_of g c =
     let board = rw c.unwrap-board.ensures at c.new.ensures.value in
-    number_failed (html_board_on c.args.names c.args.session.now) 36 c.loop-number.number
+    number_failed (html_board_on c.args.names (seen c.args.analysis.now) c.args.session.now) 36 c.loop-number.number
     (g.W.Write.contents c.args.writer.now) (g.W.Write.contents c.loop-number.writer) (g.W.Write.contents c.write_board_of.new.writer) c.from_residual.result
     c.from_residual.ensures.0 c.loop-number.invariant.least (omega arith) c.loop-number.invariant.taken (rw board at c.in_err-write_board_of.ensures)
 
@@ -16,7 +17,7 @@ loop-number-preserved g c =
     let board = rw c.unwrap-board.ensures at c.new.ensures.value in
     record {
       taken =
-          number_taken (html_board_on c.args.names c.args.session.now) 36 c.loop-number.number
+          number_taken (html_board_on c.args.names (seen c.args.analysis.now) c.args.session.now) 36 c.loop-number.number
           (g.W.Write.contents c.args.writer.now) (g.W.Write.contents c.loop-number.writer) (g.W.Write.contents c.write_board_of.new.writer)
           c.loop-number.invariant.least (omega arith) c.loop-number.invariant.taken (rw board at c.in_ok-write_board_of.ensures);
       least = omega arith;
@@ -25,5 +26,5 @@ loop-number-preserved g c =
 pub returns : goal.returns
 unfolding html_boards
 returns g c =
-    numbers_taken (html_board_on c.args.names c.args.session.now) 36 c.loop-number.number
+    numbers_taken (html_board_on c.args.names (seen c.args.analysis.now) c.args.session.now) 36 c.loop-number.number
     (g.W.Write.contents c.args.writer.now) (g.W.Write.contents c.loop-number.writer) (omega arith) c.loop-number.invariant.taken

@@ -2,11 +2,12 @@ use Rattle.std.proofs.Common.{◌-◌, ◌≤◌, take}
 use Rattle.std.specs.Prelude.{flat_map}
 use Rattle.std.specs.List.{range_with_len}
 use Rattle.line_text.specs.Streams.{between, Takes}
+use Rattle.bridge_results.specs.Costs.{seen}
 use Rattle.bridge_results.specs.HtmlPage.{html_board_on}
 use Rattle.bridge_results.proofs.html.boards.write_boards.Given as goal
 
 abbrev pub invariant-loop-number : goal.invariant-loop-number
 invariant-loop-number g l = record {
-  taken : Takes (between (g.W.Write.contents l.fn.writer) (g.W.Write.contents l.writer)) (flat_map (html_board_on l.names l.session) (take (l.number - 1) (range_with_len 1 36)));
+  taken : Takes (between (g.W.Write.contents l.fn.writer) (g.W.Write.contents l.writer)) (flat_map (html_board_on l.names (seen l.analysis) l.session) (take (l.number - 1) (range_with_len 1 36)));
   least : 1 ≤ l.number;
 }

@@ -10,11 +10,11 @@ use Rattle.bridge_results.proofs.html.recorded.write_course_on.Goals as goal
 pub returns-in-Some : goal.returns-in-Some
 returns-in-Some g c =
     let s = c.args.session.now in
-    subst (λ (id : Option PlayId). Written (stream g.W.Write.contents c.args.writer.now c.write_found.new.writer) (found_html c.args.names s c.args.play.now (option_and_then (record_of s) id)) c.write_found.result)
+    subst (λ (id : Option PlayId). Written (stream g.W.Write.contents c.args.writer.now c.write_found.new.writer) (found_html c.args.names c.args.costs.now s c.args.play.now (option_and_then (record_of s) id)) c.write_found.result)
     (c.in-Some.ensures ∙ ap (λ (k : ConfigValue). shown_id k c.args.play.now) c.config.ensures) c.write_found.ensures
 
 pub returns-in-None : goal.returns-in-None
 returns-in-None g c =
     let s = c.args.session.now in
-    subst (λ (id : Option PlayId). Written (stream g.W.Write.contents c.args.writer.now c.write_text.new.writer) (found_html c.args.names s c.args.play.now (option_and_then (record_of s) id)) c.write_text.result)
+    subst (λ (id : Option PlayId). Written (stream g.W.Write.contents c.args.writer.now c.write_text.new.writer) (found_html c.args.names c.args.costs.now s c.args.play.now (option_and_then (record_of s) id)) c.write_text.result)
     (c.in-None.ensures ∙ ap (λ (k : ConfigValue). shown_id k c.args.play.now) c.config.ensures) c.write_text.ensures

@@ -6,4 +6,4 @@ use Rattle.bridge_results.proofs.html.recorded.write_courses.Given as goal
 
 abbrev pub invariant-loop-line : goal.invariant-loop-line
 invariant-loop-line g l =
-    Takes (between (g.W.Write.contents l.fn.writer) (g.W.Write.contents l.writer)) (flat_map (line_course l.names l.session) (take l.line-index l.lines))
+    Takes (between (g.W.Write.contents l.fn.writer) (g.W.Write.contents l.writer)) (flat_map (line_course l.names l.plays l.session) (take l.line-index l.lines))

@@ -6,21 +6,21 @@ use Rattle.bridge_results.proofs.html.tricks.write_tricks.Goals as goal
 pub returns-in_err-write_trick : goal.returns-in_err-write_trick
 returns-in_err-write_trick g c =
     let count = ap length c.cards.ensures.cards in
-    index_failed (trick_row c.args.play.now.contract c.args.play.now.cards) (fours (length c.args.play.now.cards)) c.loop-trick.trick
+    index_failed (trick_row c.args.play.now.contract c.args.play.now.cards c.args.costs.now) (fours (length c.args.play.now.cards)) c.loop-trick.trick
     (g.W.Write.contents c.args.writer.now) (g.W.Write.contents c.loop-trick.writer) (g.W.Write.contents c.write_trick.new.writer) c.from_residual.result
     c.from_residual.ensures.0 (rw count at c.loop-trick-test.true) c.loop-trick.invariant c.in_err-write_trick.ensures
 
 pub loop-trick-preserved : goal.loop-trick-preserved
 loop-trick-preserved g c =
     let count = ap length c.cards.ensures.cards in
-    index_taken (trick_row c.args.play.now.contract c.args.play.now.cards) (fours (length c.args.play.now.cards)) c.loop-trick.trick
+    index_taken (trick_row c.args.play.now.contract c.args.play.now.cards c.args.costs.now) (fours (length c.args.play.now.cards)) c.loop-trick.trick
     (g.W.Write.contents c.args.writer.now) (g.W.Write.contents c.loop-trick.writer) (g.W.Write.contents c.write_trick.new.writer)
     (rw count at c.loop-trick-test.true) c.loop-trick.invariant c.in_ok-write_trick.ensures
 
 pub returns : goal.returns
 returns g c =
     let count = ap length c.cards.ensures.cards in
-    indexes_taken (trick_row c.args.play.now.contract c.args.play.now.cards) (fours (length c.args.play.now.cards)) c.loop-trick.trick
+    indexes_taken (trick_row c.args.play.now.contract c.args.play.now.cards c.args.costs.now) (fours (length c.args.play.now.cards)) c.loop-trick.trick
     (g.W.Write.contents c.args.writer.now) (g.W.Write.contents c.loop-trick.writer) (omega (arith, count)) c.loop-trick.invariant
 
 pub write_trick-requires-clause-there : goal.write_trick-requires-clause-there

@@ -7,4 +7,4 @@ use Rattle.bridge_results.proofs.html.tricks.write_tricks.Given as goal
 
 abbrev pub invariant-loop-trick : goal.invariant-loop-trick
 invariant-loop-trick g l =
-    Takes (between (g.W.Write.contents l.fn.writer) (g.W.Write.contents l.writer)) (flat_map (trick_row l.play.contract l.play.cards) (take l.trick (range_with_len 0 (fours (length l.play.cards)))))
+    Takes (between (g.W.Write.contents l.fn.writer) (g.W.Write.contents l.writer)) (flat_map (trick_row l.play.contract l.play.cards l.costs) (take l.trick (range_with_len 0 (fours (length l.play.cards)))))

@@ -7,6 +7,6 @@ use Rattle.bridge_results.proofs.pages.sheets.write_boards.Given as goal
 
 abbrev pub invariant-loop-number : goal.invariant-loop-number
 invariant-loop-number g l = record {
-  taken : Takes (between (g.W.Write.contents l.fn.writer) (g.W.Write.contents l.writer)) (flat_map (board_on l.format l.session) (take (l.number - 1) (range_with_len 1 36)));
+  taken : Takes (between (g.W.Write.contents l.fn.writer) (g.W.Write.contents l.writer)) (flat_map (board_on l.format l.analysis l.session) (take (l.number - 1) (range_with_len 1 36)));
   least : 1 ≤ l.number;
 }

@@ -1,0 +1,2 @@
+-- Lemmas of what is found of a session.
+mod OneByOne

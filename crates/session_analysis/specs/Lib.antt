@@ -1,0 +1,2 @@
+-- The definitions of what is found of a session.
+pub mod Analysed
