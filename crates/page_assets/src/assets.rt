@@ -1549,6 +1549,8 @@ const NEWS_LATE = 25000;
 const HIDDEN_LOOK = 5000;
 const LOOK = 1000;
 const AGAIN = [500, 1000, 2000, 4000, 8000];
+// Milliseconds that what is asked besides a view waits for it.
+const AFTER_VIEW = 15;
 // Milliseconds after which the page says that no answer has come.
 const SLOW = 3000;
 // Whose page this is, once his key is known to be somebody's.
@@ -1884,6 +1886,9 @@ async function lookOnce(asked) {
   // The view is asked for first, and shown as soon as it is there where it goes on from the one that is shown.
   const view = role.isDirector ? null : ask("/lines", "SEE " + asked + "\n");
   if (view) view.then((text) => { if (mine === turn && text !== null && goesOn(text)) showView(lastPlace, text); });
+  // What is asked besides goes a moment later, so that it holds the view up nowhere.
+  if (view && !place) await Promise.race([view, new Promise((done) => { setTimeout(done, AFTER_VIEW); })]);
+  if (mine !== turn) return;
   const told = role.isDirector ? [ask("/tables", asked)] : [place || ask("/place", asked), view];
   const replies = await Promise.all([...told, ask("/desk", asked)]);
   if (mine !== turn) return;
