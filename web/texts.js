@@ -198,6 +198,7 @@ const TEXTS = {
   cardBack: "The director has taken back the last card.",
   endedByRuling: (board) => "Board " + board + " is not played on: the director has ruled so.",
   claimRefused: "The claim stands no more: it was refused, or the director took it back. Play goes on.",
+  youRefused: "You have refused the claim. Play goes on.",
   claimRefusedBy: (seat) => seat + " does not agree to the claim. Play goes on; call the director if need be.",
 
   // Between the boards, and at the end.

@@ -1239,6 +1239,7 @@ const TEXTS = {
   cardBack: "The director has taken back the last card.",
   endedByRuling: (board) => "Board " + board + " is not played on: the director has ruled so.",
   claimRefused: "The claim stands no more: it was refused, or the director took it back. Play goes on.",
+  youRefused: "You have refused the claim. Play goes on.",
   claimRefusedBy: (seat) => seat + " does not agree to the claim. Play goes on; call the director if need be.",
 
   // Between the boards, and at the end.
@@ -2641,7 +2642,10 @@ function playGoesOn(place, view) {
 let before = null;
 
 // Why a claim stands no more, as far as it is told.
-const claimFell = () => (desk.refusedBy ? TEXTS.claimRefusedBy(SEAT_NAMES[desk.refusedBy]) : TEXTS.claimRefused);
+function claimFell() {
+  if (!desk.refusedBy) return TEXTS.claimRefused;
+  return before && desk.refusedBy === before.seat ? TEXTS.youRefused : TEXTS.claimRefusedBy(SEAT_NAMES[desk.refusedBy]);
+}
 
 // What came since the last view of the same board, in words.
 function news(view) {
@@ -2940,7 +2944,8 @@ async function act(line) {
   drawn();
   const timers = sayLate(onWay);
   // Whoever refuses a claim says so first, so that the others are told who did.
-  if (line.startsWith("REFUSE ")) await ask("/desk", asked + " REFUSAL");
+  const said = line.startsWith("REFUSE ") ? await ask("/desk", asked + " REFUSAL") : null;
+  if (said !== null && key === asked) takeDesk(said);
   // The answer, and what there is to see then.
   const reply = await ask("/lines", line + "\nSEE " + asked + "\n");
   timers.forEach(clearTimeout);
