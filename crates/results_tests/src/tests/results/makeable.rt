@@ -197,9 +197,10 @@ fn html(rt: HostRuntime) -> Result<(), Fail> {
 fn cards_that_cost_a_trick(rt: HostRuntime) -> Result<(), Fail> {
     let session = played(&rt, rt.alloc(), MATCHPOINTS)?;
     let mut cards = ArrayVec::new();
-    for tricks in [1, 0, 0, 2] {
-        cards.push(tricks);
-    }
+    cards.push(1);
+    cards.push(0);
+    cards.push(0);
+    cards.push(2);
     let costs = [PlayCosts {
         round: 1,
         table: 1,
