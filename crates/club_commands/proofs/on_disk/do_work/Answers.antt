@@ -1,0 +1,5 @@
+use Rattle.std.proofs.KnownBytes.{Keeps-refl}
+use Rattle.club_commands.proofs.on_disk.do_work.Goals as goal
+
+pub returns-in-Results : goal.returns-in-Results
+returns-in-Results g c = rw c.in-Results.is (c.results_over.ensures, Keeps-refl _)
