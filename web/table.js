@@ -638,7 +638,7 @@ function waiting(place, view) {
     const { seat, tricks } = view.claim;
     if (place.answer) return TEXTS.answerWaited;
     if (hasAgreed(place, view)) return TEXTS.youAgreed(SEAT_NAMES[partner(view.seat)]);
-    return (seat === view.seat ? TEXTS.youClaim(tricks, leftOf(view)) : TEXTS.claims(SEAT_NAMES[seat], tricks, leftOf(view))) + answersWords(place, view);
+    return (seat === view.seat ? TEXTS.youClaim(tricks, leftOf(view)) : TEXTS.claimsFew(SEAT_NAMES[seat], tricks, leftOf(view))) + answersWords(place, view);
   }
   if (!view.playing) return view.turn === view.seat ? TEXTS.yourTurnToCall : TEXTS.isToCall(SEAT_NAMES[view.turn]);
   const played = handPlayed(place, view);

@@ -224,11 +224,11 @@ run({
     }
     const page = await seated(place({ CONTRACT: "1H E" }), play({ CLAIM: "S 5" }));
     assert.strictEqual(page.at("agree"), null);
-    assert.strictEqual(page.text("status"), "You claim 5 of the 13 tricks left. East is asked.", "a defender's claim");
+    assert.strictEqual(page.text("status"), "You claim 5 of 13. East is asked.", "a defender's claim");
     const agreed = (contract, claim) => seated(place({ CONTRACT: contract }), play({ AT: "7 20 1", CLAIM: claim }));
     assert.strictEqual((await agreed("1H E", "E 5")).text("status"), "You have agreed. North is asked.");
-    assert.strictEqual((await agreed("1H N", "N 5")).text("status"), "North claims 5 of the 13 tricks left. East and West are asked.", "dummy is not asked");
-    assert.strictEqual((await agreed("1H E", "N 5")).text("status"), "North claims 5 of the 13 tricks left. East is asked.", "a defender's claim asks declarer alone");
+    assert.strictEqual((await agreed("1H N", "N 5")).text("status"), "North claims 5 of 13. East and West are asked.", "dummy is not asked");
+    assert.strictEqual((await agreed("1H E", "N 5")).text("status"), "North claims 5 of 13. East is asked.", "a defender's claim asks declarer alone");
   },
 
   "the table shows what is seen": async () => {
@@ -858,7 +858,7 @@ run({
   "who has agreed to a claim is told, and who has refused it": async () => {
     const agreed = "OK\nNOW 9 14400\nAGREED W\n.\n";
     const shows = (contract, claim, due) => seated(place(due ? { CONTRACT: contract, ANSWER: "DUE" } : { CONTRACT: contract }), play({ AT: "7 20 1", CLAIM: claim }), "OK\n", boards(), agreed);
-    assert.strictEqual((await shows("1H S", "S 5")).text("status"), "You claim 5 of the 13 tricks left. West agrees. East is asked.");
+    assert.strictEqual((await shows("1H S", "S 5")).text("status"), "You claim 5 of 13. West agrees. East is asked.");
     assert.match((await shows("1H E", "E 5", true)).text("dock"), /West agrees\./);
     const page = await seated(place({ CONTRACT: "1H S" }), play({ AT: "7 20 1", CLAIM: "S 5" }));
     page.answer = (where) => (where === "/place" ? place({ CONTRACT: "1H S" }) : play({ AT: "7 20 1" }));

@@ -1224,7 +1224,9 @@ const TEXTS = {
   ifAgreed: ", if all agree.",
   refuse: "Refuse",
   agree: "Agree",
-  youClaim: (tricks, left) => "You claim " + TEXTS.someOf(tricks, left) + ". ",
+  youClaim: (tricks, left) => "You claim " + TEXTS.fewOf(tricks, left) + ". ",
+  claimsFew: (seat, tricks, left) => seat + " claims " + TEXTS.fewOf(tricks, left) + ". ",
+  fewOf: (tricks, left) => (Number(tricks) === left ? "all " + left : (Number(tricks) === 0 ? "none" : tricks) + " of " + left),
   someOf: (tricks, left) => (Number(tricks) === left ? (left === 1 ? "the last trick" : "all " + left + " tricks left") : (Number(tricks) === 0 ? "none" : tricks) + " of the " + left + " tricks left"),
   claims: (seat, tricks, left) => seat + " claims " + TEXTS.someOf(tricks, left) + ". ",
   answerWaited: "Your answer is waited for",
@@ -2578,7 +2580,7 @@ function waiting(place, view) {
     const { seat, tricks } = view.claim;
     if (place.answer) return TEXTS.answerWaited;
     if (hasAgreed(place, view)) return TEXTS.youAgreed(SEAT_NAMES[partner(view.seat)]);
-    return (seat === view.seat ? TEXTS.youClaim(tricks, leftOf(view)) : TEXTS.claims(SEAT_NAMES[seat], tricks, leftOf(view))) + answersWords(place, view);
+    return (seat === view.seat ? TEXTS.youClaim(tricks, leftOf(view)) : TEXTS.claimsFew(SEAT_NAMES[seat], tricks, leftOf(view))) + answersWords(place, view);
   }
   if (!view.playing) return view.turn === view.seat ? TEXTS.yourTurnToCall : TEXTS.isToCall(SEAT_NAMES[view.turn]);
   const played = handPlayed(place, view);
