@@ -188,8 +188,8 @@ body.login main { max-width: 28rem; margin: auto; }
 .login .panel label { display: block; min-height: 0; margin-bottom: .3rem; font-weight: bold; }
 .login .panel .large { margin: 0; font-size: 1.625rem; }
 .login-head { margin-bottom: .75rem; }
-.login-head p { margin: 0 0 .25rem; }
-.login-head .second { font-size: 1rem; }
+.login-head p { margin: 0 0 .35rem; }
+.login .login-head .second:first-child { font-size: 1rem; }
 .login .second { font-size: .875rem; }
 .login-more { margin-top: 1rem; }
 .login a.send { display: grid; place-items: center; min-height: 3.25rem; border-radius: .5rem; font-size: 1.125rem; font-weight: bold; text-decoration: none; }
