@@ -25,7 +25,12 @@ const ROWS: &[(u32, &str, &str, &str)] = &[
     (0, "/desk", "100", "OK\nNOW 0 600\nDISK club.disk\n.\n"),
     (0, "/desk", "12345", "ERR 1 NoKey\n"),
     (0, "/desk", "x", "ERR 30 BadLine\n"),
-    (0, "/desk", "", "ERR 30 BadLine\n"),
+    (
+        0,
+        "/desk",
+        "",
+        "OK\nEVENT Club-Night\nSITE Town-Hall\nDATE 2026.03.14\nPLAN 2 1 1 MP\n.\n",
+    ),
     (0, "/desk", "11 HELP", "ERR 30 BadLine\n"),
     (0, "/desk", "11 NOTICE Coffee", "ERR 2 NotAllowed\n"),
     (
