@@ -91,6 +91,37 @@ window.addEventListener("keydown", (event) => {
 window.addEventListener("pointerdown", () => { byKeys = false; });
 const isLost = () => document.activeElement === null || document.activeElement === document.body;
 
+// What an element does, which no attribute says.
+const DEEDS = ["onclick", "onkeydown", "oninput"];
+
+// Makes of a node what another one is, where it can be: not of another element, nor of a field. What is folded stays so.
+function becomes(node, other) {
+  if (node.nodeName !== other.nodeName || node.id !== other.id || node.nodeName === "INPUT") return false;
+  if (node.nodeName === "#text") {
+    if (node.data !== other.data) node.data = other.data;
+    return true;
+  }
+  for (const name of new Set([...node.getAttributeNames(), ...other.getAttributeNames()])) {
+    const value = other.getAttribute(name);
+    if (value === node.getAttribute(name) || name === "open") continue;
+    if (value === null) node.removeAttribute(name);
+    else node.setAttribute(name, value);
+  }
+  for (const deed of DEEDS) node[deed] = other[deed];
+  keepChildren(node, [...other.childNodes]);
+  return true;
+}
+
+// Gives an element these children, of which those that were there and can become them stay: the less is new, the less is drawn.
+function keepChildren(element, nodes) {
+  const old = [...element.childNodes];
+  for (const [i, node] of nodes.entries()) {
+    if (i >= old.length) element.append(node);
+    else if (!becomes(old[i], node)) old[i].replaceWith(node);
+  }
+  for (const node of old.slice(nodes.length)) node.remove();
+}
+
 // Shows these nodes on a page of that shape, where what they are made of is new; the focus and what is open stay, but where
 // the focus has a reason to move.
 function show(made, status, shape, nodes, moveFocus = () => {}) {
@@ -102,8 +133,10 @@ function show(made, status, shape, nodes, moveFocus = () => {}) {
   const main = at("main");
   const focus = isLost() ? (byKeys ? held : "") : main.contains(document.activeElement) ? document.activeElement.id : "";
   const open = [...main.querySelectorAll("details[open]")].map((node) => node.id);
+  const isTable = [document.body.className, shape].every((one) => one.startsWith("at-table"));
   document.body.className = shape;
-  main.replaceChildren(...nodes());
+  if (isTable) keepChildren(main, nodes());
+  else main.replaceChildren(...nodes());
   for (const id of open) if (at(id)) at(id).open = true;
   movedAt = Date.now();
   // What was in the focus stays there; where it is gone, the first card or call that may be chosen.

@@ -754,12 +754,16 @@ function headText(place) {
   return TEXTS.ofPair(shownName(place.pair, place.name), place.pair);
 }
 
-// Who sits at a table, this player and his partner first.
-function namesNode(place) {
-  const seat = place.table.seat;
-  const around = [seat, partner(seat), ...SEATS.filter((one) => one !== seat && one !== partner(seat))];
-  return make("ul", { className: "names" },
-    ...around.map((one) => make("li", null, make("span", { className: "mark", aria_label: SEAT_NAMES[one] }, one), one === seat ? TEXTS.isYou(place.names[one]) : place.names[one])));
+// Who sits in some seats, a line each.
+const seatsNode = (seats, name) => make("ul", { className: "names" },
+  ...seats.map((seat) => make("li", null, make("span", { className: "mark", aria_label: SEAT_NAMES[seat] }, seat), name(seat))));
+
+// Who sits at a table: this player and his partner, then those whom they play.
+function namesNodes({ table, names }) {
+  const { seat } = table;
+  const sides = [[seat, partner(seat)], SEATS.filter((one) => one !== seat && one !== partner(seat))];
+  const [ours, theirs] = sides.map((seats) => seatsNode(seats, (one) => (one === seat ? TEXTS.isYou(names[one]) : names[one])));
+  return [ours, make("h2", null, TEXTS.opponents), theirs];
 }
 
 // What the evening has come to so far, and the way to the score card.
@@ -787,8 +791,7 @@ function meetNodes(next) {
   const names = shownAt(desk.meets.names);
   const others = SEATS.filter((seat) => seat !== next.seat && seat !== partner(next.seat));
   const pair = others.includes("N") ? desk.meets.ns : desk.meets.ew;
-  return [make("h2", null, TEXTS.youMeet(pair)), make("ul", { className: "names" },
-    ...others.map((seat) => make("li", null, make("span", { className: "mark", aria_label: SEAT_NAMES[seat] }, seat), names[seat])))];
+  return [make("h2", null, TEXTS.youMeet(pair)), seatsNode(others, (seat) => names[seat])];
 }
 
 function betweenNodes(place, next) {
@@ -803,7 +806,7 @@ function betweenNodes(place, next) {
   const here = make("section", { className: "panel" }, make("p", { className: "second" }, TEXTS.roundOf(place.round, place.rounds)));
   if (place.table) here.append(
     make("p", { className: "large" }, TEXTS.tableSeat(place.table.number, SEAT_NAMES[place.table.seat])),
-    make("p", null, placeText(place) + "."), namesNode(place));
+    make("p", null, placeText(place) + "."), ...namesNodes(place));
   else here.append(make("p", { className: "large" }, TEXTS.sitOut));
   if (!next || !place.table) nodes.unshift(here);
   const played = told.boards.filter((board) => board.round === String(place.round));
@@ -863,7 +866,7 @@ function showView(placeReply, reply) {
     unmark();
     turnTitle(false);
     const done = refused === "NotCurrent";
-    const status = refused === "NotDealt" ? TEXTS.notDealtYet : done ? TEXTS.boardsDone + nextText(place)
+    const status = refused === "NotDealt" ? TEXTS.notDealtYet(place.round === 1 && !told.boards.length) : done ? TEXTS.boardsDone + nextText(place)
       : refused === "SitsOut" ? TEXTS.sitsOut + " " + nextText(place) : TEXTS.refusals[refused] || reply;
     drawn = () => {};
     if (showLeaf(place, TEXTS.toNext)) return;

@@ -141,6 +141,10 @@ def main():
             login = Window(browser, f"http://127.0.0.1:{PORT}/")
             login.wait("document.getElementById('key')")
             measure_all(login, "login")
+            for name, address in [("unknown", f"http://127.0.0.1:{PORT}/nothing"), ("wrong-host", f"http://0.0.0.0:{PORT}/")]:
+                login.go(address)
+                login.wait("document.querySelector('.login-key')")
+                measure_all(login, name)
             for key in [*SEATS, DIRECTOR]:
                 window = windows[key] = Window(browser, f"http://127.0.0.1:{PORT}/")
                 window.wait("document.getElementById('key')")
@@ -177,6 +181,10 @@ def main():
             large_letters(windows[SOUTH], "dummy")
             send(f"CARD {NORTH} 1 1 DK", f"CARD {WEST} 1 2 DA", f"CARD {NORTH} 1 3 D2", f"CARD {WEST} 1 4 D5", f"CARD {NORTH} 1 5 C2", f"CARD {EAST} 1 6 D9", f"CARD {NORTH} 1 7 D3")
             measure_all(windows[NORTH], "whole-trick")
+            windows[NORTH].click("#claim-open")
+            windows[NORTH].wait("document.getElementById('claiming')")
+            measure_all(windows[NORTH], "claiming")
+            windows[NORTH].click("#claim-back")
             before = tops(windows[WEST])
             send(f"CLAIM {NORTH} 1 0 9")
             moved = [size for size, top in tops(windows[WEST]).items() if top != before[size]]
@@ -194,7 +202,18 @@ def main():
                 measure_all(windows[DIRECTOR], f"director-{part}", scrolls=True)
             measure_all(windows[WEST], "asked")
             measure_all(windows[NORTH], "claimed")
-            send(f"AGREE {EAST} 1 1", f"AGREE {WEST} 1 1")
+            windows[EAST].click("#agree")
+            windows[NORTH].wait("document.body.innerText.includes('East agrees')")
+            measure_all(windows[NORTH], "claimed-half")
+            measure_all(windows[EAST], "agreed")
+            measure_all(windows[WEST], "asked-half")
+            for _ in range(2):
+                windows[WEST].click("#refuse")
+                time.sleep(0.6)
+            windows[NORTH].wait("document.body.innerText.includes('does not agree')")
+            measure_all(windows[NORTH], "refused")
+            measure_all(windows[WEST], "refused-by-you")
+            send(f"CLAIM {NORTH} 1 1 9", f"AGREE {EAST} 1 2", f"AGREE {WEST} 1 2")
             windows[NORTH].wait("document.getElementById('band')")
             measure_all(windows[NORTH], "over", scrolls=True)
             for _ in range(7):
@@ -211,6 +230,16 @@ def main():
             windows[NORTH].wait("document.getElementById('card')")
             measure_all(windows[NORTH], "boards", scrolls=True)
             large_letters(windows[NORTH], "boards")
+            for board in [2, 3]:
+                send(f"DEAL {DIRECTOR} {board} {DEAL}", *[f"CALL {SEATS[(board - 1 + i) % 4]} {board} {i} PASS" for i in range(4)])
+            server.posted("/desk", f"{DIRECTOR} CLOCK 6")
+            windows[EAST].click("#onward")
+            windows[EAST].wait("document.querySelector('.round .now')")
+            measure_all(windows[EAST], "between", scrolls=True)
+            large_letters(windows[EAST], "between")
+            server.posted("/desk", f"{DIRECTOR} NOTICE {NOTICE}")
+            time.sleep(1.5)
+            measure_all(windows[EAST], "between-noticed", scrolls=True)
         finally:
             browser.close()
             server.kill()

@@ -4,10 +4,48 @@
 // Elements that have nothing within.
 const EMPTY = new Set(["meta", "link", "br", "input"]);
 
-class Element {
+// What stands in an element: another, or a text.
+class Node {
+  replaceWith(node) {
+    const { parent } = this;
+    parent.nodes[parent.nodes.indexOf(this)] = node;
+    node.parent = parent;
+    this.parent = null;
+  }
+
+  remove() {
+    this.parent.nodes.splice(this.parent.nodes.indexOf(this), 1);
+    this.parent = null;
+  }
+}
+
+class Text extends Node {
+  constructor(data) {
+    super();
+    Object.assign(this, { data: String(data), parent: null, nodeName: "#text" });
+  }
+
+  get textContent() {
+    return this.data;
+  }
+}
+
+// What an element has that no attribute says.
+const INNER = ["owner", "tag", "nodes", "parent", "attributes", "typed"];
+
+class Element extends Node {
   constructor(owner, tag) {
+    super();
     Object.assign(this, { owner, tag, id: "", className: "", nodes: [], parent: null, attributes: new Map(), hidden: false, disabled: false, open: false, defaultValue: "" });
     this.typed = null;
+  }
+
+  get nodeName() {
+    return this.tag.toUpperCase();
+  }
+
+  get childNodes() {
+    return this.nodes;
   }
 
   get value() {
@@ -20,35 +58,40 @@ class Element {
   }
 
   append(...nodes) {
-    for (const node of nodes) {
-      if (node instanceof Element) node.parent = this;
-      this.nodes.push(node instanceof Element ? node : String(node));
+    for (const one of nodes) {
+      const node = one instanceof Node ? one : new Text(one);
+      node.parent = this;
+      this.nodes.push(node);
     }
   }
 
   replaceChildren(...nodes) {
-    for (const node of this.nodes) if (node instanceof Element) node.parent = null;
+    for (const node of this.nodes) node.parent = null;
     this.nodes = [];
     this.append(...nodes);
   }
 
-  replaceWith(node) {
-    const { parent } = this;
-    parent.nodes[parent.nodes.indexOf(this)] = node;
-    node.parent = parent;
-    this.parent = null;
+  // The attributes, with those that are kept as properties.
+  getAttributeNames() {
+    return [...this.attributes.keys(), ...Object.keys(this).filter((name) => !INNER.includes(name) && typeof this[name] !== "function")];
   }
 
   setAttribute(name, value) {
-    this.attributes.set(name, String(value));
+    if (Object.hasOwn(this, name)) this[name] = value;
+    else this.attributes.set(name, String(value));
   }
 
   getAttribute(name) {
-    return this.attributes.has(name) ? this.attributes.get(name) : null;
+    if (this.attributes.has(name)) return this.attributes.get(name);
+    return Object.hasOwn(this, name) ? this[name] : null;
+  }
+
+  removeAttribute(name) {
+    this.attributes.delete(name);
   }
 
   get textContent() {
-    return this.nodes.map((node) => (node instanceof Element ? node.textContent : node)).join("");
+    return this.nodes.map((node) => node.textContent).join("");
   }
 
   set textContent(text) {

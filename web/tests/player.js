@@ -440,6 +440,16 @@ run({
     assert.strictEqual(page.document.activeElement.id, "card-SA");
   },
 
+  "what has not changed stays in its place, and does what is due": async () => {
+    const page = await seated(place(), view({ TURN: "W" }));
+    const [box, bid, card] = ["dock", "call-1S", "card-SA"].map((id) => page.at(id));
+    page.answer = (where, body) => (where === "/place" ? place() : body.startsWith("SEE ") ? view({ AT: "4 0 0", CALLS: "PASS PASS 1H PASS" }) : "OK\n");
+    await page.look();
+    assert.ok(box === page.at("dock") && bid === page.at("call-1S") && card === page.at("card-SA"));
+    assert.deepStrictEqual([bid.disabled, page.at("call-1H").disabled, page.named("Auction").querySelectorAll("td")[3].textContent], [false, true, page.at("call-1H").textContent]);
+    assert.deepStrictEqual((await page.click("call-1S"))[0], `/lines CALL ${KEY} 4 4 1S\n${THEN}`);
+  },
+
   "a hand is one stop for Tab, and a sheet holds the focus": async () => {
     const page = await seated(place({ CONTRACT: "1H E" }), play({ AT: "7 4 0", LAST: "S HK H2 H3 H4" }));
     const stops = () => page.at("hand").querySelectorAll("button").filter((one) => one.tabIndex === 0).map((one) => one.id);
@@ -471,7 +481,8 @@ run({
 
   "where nothing is played it says why": async () => {
     for (const [why, placed, due] of [
-      ["NotDealt", place(), "The next board is not dealt yet."],
+      ["NotDealt", place({ ROUND: "2 3" }), "The next board is not dealt yet."],
+      ["NotDealt", place(), "The first board is not dealt yet."],
       ["NotCurrent", place(), "Your boards of this round are done. Next round: table 1, West."],
       ["NotCurrent", place({ ROUND: "3 3", NEXT: "-" }), "Your boards of this round are done. "],
       ["SitsOut", place({ TABLE: "-", NAMES: "-" }), "You sit out in this round. Next round: table 1, West."],

@@ -1252,6 +1252,7 @@ const TEXTS = {
   nextRound: (table, seat) => "Next round: table " + table + ", " + seat + ".",
   ofPair: (name, pair) => name + ", pair " + pair,
   isYou: (name) => "You, " + name,
+  opponents: "Your opponents",
   nextOf: (round, rounds) => "Next, round " + round + " of " + rounds,
   roundOf: (round, rounds) => "Round " + round + " of " + rounds,
   sides: { N: "North\u2013South", E: "East\u2013West", S: "North\u2013South", W: "East\u2013West" },
@@ -1265,7 +1266,7 @@ const TEXTS = {
   youAreHere: "you are here",
   youGoHere: "you go here",
   roundBegins: "The next round begins when the director ends this one.",
-  notDealtYet: "The next board is not dealt yet.",
+  notDealtYet: (isFirst) => "The " + (isFirst ? "first" : "next") + " board is not dealt yet.",
   boardsDone: "Your boards of this round are done. ",
   closed: "The session is closed.",
   finalOf: (event) => event + ", final",
@@ -1631,6 +1632,37 @@ window.addEventListener("keydown", (event) => {
 window.addEventListener("pointerdown", () => { byKeys = false; });
 const isLost = () => document.activeElement === null || document.activeElement === document.body;
 
+// What an element does, which no attribute says.
+const DEEDS = ["onclick", "onkeydown", "oninput"];
+
+// Makes of a node what another one is, where it can be: not of another element, nor of a field. What is folded stays so.
+function becomes(node, other) {
+  if (node.nodeName !== other.nodeName || node.id !== other.id || node.nodeName === "INPUT") return false;
+  if (node.nodeName === "#text") {
+    if (node.data !== other.data) node.data = other.data;
+    return true;
+  }
+  for (const name of new Set([...node.getAttributeNames(), ...other.getAttributeNames()])) {
+    const value = other.getAttribute(name);
+    if (value === node.getAttribute(name) || name === "open") continue;
+    if (value === null) node.removeAttribute(name);
+    else node.setAttribute(name, value);
+  }
+  for (const deed of DEEDS) node[deed] = other[deed];
+  keepChildren(node, [...other.childNodes]);
+  return true;
+}
+
+// Gives an element these children, of which those that were there and can become them stay: the less is new, the less is drawn.
+function keepChildren(element, nodes) {
+  const old = [...element.childNodes];
+  for (const [i, node] of nodes.entries()) {
+    if (i >= old.length) element.append(node);
+    else if (!becomes(old[i], node)) old[i].replaceWith(node);
+  }
+  for (const node of old.slice(nodes.length)) node.remove();
+}
+
 // Shows these nodes on a page of that shape, where what they are made of is new; the focus and what is open stay, but where
 // the focus has a reason to move.
 function show(made, status, shape, nodes, moveFocus = () => {}) {
@@ -1642,8 +1674,10 @@ function show(made, status, shape, nodes, moveFocus = () => {}) {
   const main = at("main");
   const focus = isLost() ? (byKeys ? held : "") : main.contains(document.activeElement) ? document.activeElement.id : "";
   const open = [...main.querySelectorAll("details[open]")].map((node) => node.id);
+  const isTable = [document.body.className, shape].every((one) => one.startsWith("at-table"));
   document.body.className = shape;
-  main.replaceChildren(...nodes());
+  if (isTable) keepChildren(main, nodes());
+  else main.replaceChildren(...nodes());
   for (const id of open) if (at(id)) at(id).open = true;
   movedAt = Date.now();
   // What was in the focus stays there; where it is gone, the first card or call that may be chosen.
@@ -2696,12 +2730,16 @@ function headText(place) {
   return TEXTS.ofPair(shownName(place.pair, place.name), place.pair);
 }
 
-// Who sits at a table, this player and his partner first.
-function namesNode(place) {
-  const seat = place.table.seat;
-  const around = [seat, partner(seat), ...SEATS.filter((one) => one !== seat && one !== partner(seat))];
-  return make("ul", { className: "names" },
-    ...around.map((one) => make("li", null, make("span", { className: "mark", aria_label: SEAT_NAMES[one] }, one), one === seat ? TEXTS.isYou(place.names[one]) : place.names[one])));
+// Who sits in some seats, a line each.
+const seatsNode = (seats, name) => make("ul", { className: "names" },
+  ...seats.map((seat) => make("li", null, make("span", { className: "mark", aria_label: SEAT_NAMES[seat] }, seat), name(seat))));
+
+// Who sits at a table: this player and his partner, then those whom they play.
+function namesNodes({ table, names }) {
+  const { seat } = table;
+  const sides = [[seat, partner(seat)], SEATS.filter((one) => one !== seat && one !== partner(seat))];
+  const [ours, theirs] = sides.map((seats) => seatsNode(seats, (one) => (one === seat ? TEXTS.isYou(names[one]) : names[one])));
+  return [ours, make("h2", null, TEXTS.opponents), theirs];
 }
 
 // What the evening has come to so far, and the way to the score card.
@@ -2729,8 +2767,7 @@ function meetNodes(next) {
   const names = shownAt(desk.meets.names);
   const others = SEATS.filter((seat) => seat !== next.seat && seat !== partner(next.seat));
   const pair = others.includes("N") ? desk.meets.ns : desk.meets.ew;
-  return [make("h2", null, TEXTS.youMeet(pair)), make("ul", { className: "names" },
-    ...others.map((seat) => make("li", null, make("span", { className: "mark", aria_label: SEAT_NAMES[seat] }, seat), names[seat])))];
+  return [make("h2", null, TEXTS.youMeet(pair)), seatsNode(others, (seat) => names[seat])];
 }
 
 function betweenNodes(place, next) {
@@ -2745,7 +2782,7 @@ function betweenNodes(place, next) {
   const here = make("section", { className: "panel" }, make("p", { className: "second" }, TEXTS.roundOf(place.round, place.rounds)));
   if (place.table) here.append(
     make("p", { className: "large" }, TEXTS.tableSeat(place.table.number, SEAT_NAMES[place.table.seat])),
-    make("p", null, placeText(place) + "."), namesNode(place));
+    make("p", null, placeText(place) + "."), ...namesNodes(place));
   else here.append(make("p", { className: "large" }, TEXTS.sitOut));
   if (!next || !place.table) nodes.unshift(here);
   const played = told.boards.filter((board) => board.round === String(place.round));
@@ -2805,7 +2842,7 @@ function showView(placeReply, reply) {
     unmark();
     turnTitle(false);
     const done = refused === "NotCurrent";
-    const status = refused === "NotDealt" ? TEXTS.notDealtYet : done ? TEXTS.boardsDone + nextText(place)
+    const status = refused === "NotDealt" ? TEXTS.notDealtYet(place.round === 1 && !told.boards.length) : done ? TEXTS.boardsDone + nextText(place)
       : refused === "SitsOut" ? TEXTS.sitsOut + " " + nextText(place) : TEXTS.refusals[refused] || reply;
     drawn = () => {};
     if (showLeaf(place, TEXTS.toNext)) return;
@@ -4648,14 +4685,14 @@ pub const WRONG_HOST: &str = r##"<!doctype html>
 <meta charset="utf-8">
 <meta name="viewport" content="width=device-width, initial-scale=1">
 <meta name="color-scheme" content="light dark">
-<title>Another name</title>
+<title>This address is not right</title>
 <link rel="icon" href="data:,">
 <link rel="stylesheet" href="/table.css">
 </head>
 <body class="login">
 <main>
 <div class="panel">
-<div class="login-head"><h1 class="large">Another name</h1></div>
+<div class="login-head"><h1 class="large">This address is not right</h1></div>
 <div class="login-key"><p>The bridge tables are not shown under the name in this address.</p><p class="second">Type the address that the director has given out, letter by letter.</p></div>
 </div>
 </main>
