@@ -591,10 +591,11 @@ function lastSheet(place, view) {
 // Answers to a claim that this player is asked for.
 function answerDock(place, view) {
   const line = (word) => word + " " + key + " " + view.board + " " + view.made.claims;
-  const told = [desk.said ? TEXTS.saidWith(desk.said) : "", desk.agreed.map((seat) => TEXTS.agrees([SEAT_NAMES[seat]])).join(" ")].filter(Boolean);
+  const agreed = desk.agreed.length ? ". " + TEXTS.agrees(desk.agreed.map((seat) => SEAT_NAMES[seat])) : TEXTS.ifAgreed;
+  const said = desk.said ? [make("span", { className: "said" }, TEXTS.saidWith(desk.said))] : [];
   return make("section", { id: "dock", className: "claimed", aria_label: TEXTS.theClaim },
     make("p", null, make("b", null, TEXTS.claims(SEAT_NAMES[view.claim.seat], view.claim.tricks, leftOf(view))), make("br"),
-      claimWords(place, view, view.claim.seat, Number(view.claim.tricks)) + TEXTS.ifAgreed, ...told.flatMap((words) => [make("br"), words])),
+      claimWords(place, view, view.claim.seat, Number(view.claim.tricks)) + agreed, ...said),
     refuseButton(line("REFUSE")), button(TEXTS.agree, "", "agree", true, (event) => { if (!isDeaf(event)) send(line("AGREE")); }));
 }
 

@@ -24,6 +24,7 @@ DIRECTOR = "52817"
 DEAL = "N:K73.AK652.2.Q652 J652.Q8.QT97.K43 AQ94.J7.K43.JT98 T8.T943.AJ865.A7"
 CALLS = ["1C", "PASS", "1D", "PASS", "1H", "PASS", "1S", "X", "XX", "PASS", "2C", "PASS"]
 NOTICE = "Tea is in the kitchen after round 4. Please be back by 21:10, and bring your cups back."
+SAID = "Five hearts, four spades by the finesse that won, and then the clubs are high; you have two tricks."
 NAMES = {"A.Berger": "Maximiliana-Berger-Lange", "M.Okafor": "Chukwuemeka.Okafor-Adae1",
          "B.Adeyemi": "Bartholomew.Adeyemi-Olu1", "N.Fischer": "Nathanael_Fischer-Schmid"}
 
@@ -213,7 +214,11 @@ def main():
             windows[NORTH].wait("document.body.innerText.includes('does not agree')")
             measure_all(windows[NORTH], "refused")
             measure_all(windows[WEST], "refused-by-you")
-            send(f"CLAIM {NORTH} 1 1 9", f"AGREE {EAST} 1 2", f"AGREE {WEST} 1 2")
+            send(f"CLAIM {NORTH} 1 1 9")
+            server.posted("/desk", f"{NORTH} STATEMENT {SAID}")
+            send(f"AGREE {EAST} 1 2")
+            measure_all(windows[WEST], "asked-said")
+            send(f"AGREE {WEST} 1 2")
             windows[NORTH].wait("document.getElementById('band')")
             measure_all(windows[NORTH], "over", scrolls=True)
             for _ in range(7):

@@ -579,6 +579,7 @@ td.marked { outline: 2px dashed var(--blue); outline-offset: -2px; }
 #dock.play:has([hidden]) { grid-template-columns: 1fr 1fr; }
 #dock.claimed { grid-template-columns: 1fr 1fr; color: var(--gold-ink); background: var(--gold); }
 #dock.claimed p { grid-column: 1 / -1; margin: 0; line-height: 1.25; }
+.said { display: block; }
 #dock.claimed button { min-height: 3.25rem; font-size: 1.0625rem; }
 #refuse { color: #a8001c; background: #fff; border-color: #a8001c; }
 #agree { color: #fff; background: #0b57a4; border-color: #0b57a4; }
@@ -607,6 +608,9 @@ td.marked { outline: 2px dashed var(--blue); outline-offset: -2px; }
 /* What is told at a small table takes its room from the trick; whoever waits for the director needs no turn. */
 @media (max-width: 39.99em) and (max-height: 49.99em) {
   #stage { gap: .25rem .4rem; padding: .2rem .5rem; }
+  .playing #status:not(.turn) { font-size: .875rem; }
+  .said { max-height: 2.5rem; overflow-y: auto; font-size: .875rem; }
+  .at-table:has(.said) #status:not(.lost) { position: absolute; width: 1px; height: 1px; margin: 0; padding: 0; overflow: hidden; clip-path: inset(50%); }
   .at-table:has(#desk:not(:empty), #notice:not(:empty)) { --th: 3.1rem; }
   .at-table:has(#desk:not(:empty), #notice:not(:empty)) :is(.at-left, .at-right) { --ch: 2.2rem; }
 }
@@ -2567,10 +2571,11 @@ function lastSheet(place, view) {
 // Answers to a claim that this player is asked for.
 function answerDock(place, view) {
   const line = (word) => word + " " + key + " " + view.board + " " + view.made.claims;
-  const told = [desk.said ? TEXTS.saidWith(desk.said) : "", desk.agreed.map((seat) => TEXTS.agrees([SEAT_NAMES[seat]])).join(" ")].filter(Boolean);
+  const agreed = desk.agreed.length ? ". " + TEXTS.agrees(desk.agreed.map((seat) => SEAT_NAMES[seat])) : TEXTS.ifAgreed;
+  const said = desk.said ? [make("span", { className: "said" }, TEXTS.saidWith(desk.said))] : [];
   return make("section", { id: "dock", className: "claimed", aria_label: TEXTS.theClaim },
     make("p", null, make("b", null, TEXTS.claims(SEAT_NAMES[view.claim.seat], view.claim.tricks, leftOf(view))), make("br"),
-      claimWords(place, view, view.claim.seat, Number(view.claim.tricks)) + TEXTS.ifAgreed, ...told.flatMap((words) => [make("br"), words])),
+      claimWords(place, view, view.claim.seat, Number(view.claim.tricks)) + agreed, ...said),
     refuseButton(line("REFUSE")), button(TEXTS.agree, "", "agree", true, (event) => { if (!isDeaf(event)) send(line("AGREE")); }));
 }
 
