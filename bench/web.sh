@@ -1,6 +1,7 @@
 #!/bin/sh
 # Looks by a browser's requests: 28 clients that ask once a second, and 28 without pause, beside a server that only answers. Then how
-# soon what one player does is told to the others, by sockets and, where there is Debian's chromium, in pages; and 28 that wait.
+# soon what one player does is told to the others, by sockets and, where there is Debian's chromium, in pages; 28 that wait; and 28 at the
+# end of an evening.
 #
 #     bench/web.sh [SECONDS]     (10 when left out)
 #
@@ -14,6 +15,7 @@ trap 'rm -rf "$work"' EXIT
 club_program
 PYTHONDONTWRITEBYTECODE=1 python3 "$top/bench/web/measure.py" "$program" "$top/examples/rows.txt" "$work" "${1:-10}"
 PYTHONDONTWRITEBYTECODE=1 python3 "$top/bench/web/told.py" "$program" "$top/examples/rows.txt" "$work" "${1:-10}"
+PYTHONDONTWRITEBYTECODE=1 python3 "$top/bench/web/closed.py" "$program" "$work"
 if command -v chromium > /dev/null; then
     PYTHONDONTWRITEBYTECODE=1 python3 "$top/bench/web/pages.py" "$program" "$top/examples/rows.txt" "$work"
 fi
