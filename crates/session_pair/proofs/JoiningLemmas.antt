@@ -1,6 +1,6 @@
 -- Sessions on two disks.
 use Rattle.std.proofs.Common.{◌≡◌, ◌↔◌, ◌⊎◌, ◌<◌, ◌≤◌, Bool, Result, Ok, Err, IfOk, true, false, inl, inr, sym, ap, subst, ◌∙◌}
-use Rattle.std.proofs.lemmas.Bool.{cases_lt}
+use Rattle.std.proofs.lemmas.Bool.{cases_lt, cases_Bool}
 use Rattle.sector_disk.specs.Disk.{Disk}
 use Rattle.sector_disk.specs.Runs.{Quiet}
 use Rattle.bridge_config.specs.ConfigValue.{ConfigValue}
@@ -66,6 +66,15 @@ decided_not decided P decides none holds = never (sym (decides holds) ∙ none)
   where
     never : true ≡ false → ⊥
     never same = cc
+
+-- of a pair that was opened, where not both stores work and have confirmed all, the second was lost
+pub second_lost : {D : Type 0} (disk : Disk D) (d e : D) (v w : StoreValue D SessionValue Action)
+    → IsPairOpened session_keeping disk disk d e v w → ¬ (IsOne v w) → w.failed ≡ true
+second_lost disk d e v w opened none = of_copy (cases_Bool w.failed)
+  where
+    of_copy : (w.failed ≡ true) ⊎ (w.failed ≡ false) → w.failed ≡ true
+    of_copy (inl lost) = lost
+    of_copy (inr works) = absurd (none (opened.works, works, opened.none_pending.0, opened.none_pending.1))
 
 -- what three clauses say of an answer they say together
 pub ok_with : {X E : Type 0} (P Q R T : X → Type 0) (r : Result X E) → ((x : X) → P x → Q x → R x → T x)

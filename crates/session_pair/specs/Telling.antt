@@ -51,8 +51,9 @@ AreApart v w = (v.failed ≡ false) × (w.failed ≡ false) × (v.state ≢ w.st
 
 -- why nothing may be told of stores, as they were served and as they are then: both work, and have not the same state; or the
 -- pair cannot be settled
-abbrev pub CannotTell : {D E S A : Type 0} → StoreValue D S A → StoreValue E S A → StoreValue D S A → StoreValue E S A → Type 0
-CannotTell v w v' w' = AreApart v w ⊎ ((fault : CheckpointFault) × CannotSettle v w v' w' fault)
+abbrev pub CannotTell : {D E S A : Type 0} → Disk D → Disk E → StoreValue D S A → StoreValue E S A → StoreValue D S A
+    → StoreValue E S A → Type 0
+CannotTell first second v w v' w' = AreApart v w ⊎ ((fault : CheckpointFault) × CannotSettle first second v w v' w' fault)
 
 -- nothing stays pending in a store that works
 abbrev pub StaysConfirmed : {D S A : Type 0} → StoreValue D S A → StoreValue D S A → Type 0

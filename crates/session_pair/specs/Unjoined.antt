@@ -16,7 +16,7 @@ use Rattle.session_rules.specs.declared.action.Action.{Action}
 use Rattle.session_rules.specs.declared.refused.Refused.{Refused}
 use Rattle.session_rules.specs.State.{SessionValue}
 use Rattle.bridge_session.specs.SessionKeeping.{session_keeping}
-use Rattle.session_pair.specs.Joining.{IsOne, IsUnjudged, SeesBoth}
+use Rattle.session_pair.specs.Joining.{IsUnjudged, SeesBoth}
 use Rattle.session_pair.specs.declared.joining.Judged.{Judged}
 use Rattle.session_pair.specs.declared.joining.JoinFault.{JoinFault}
 use Rattle.session_pair.specs.declared.joining.JoinFault.TheVariants.{Disk as NoDisk, Copy as NoCopy, OtherPlays}
@@ -58,7 +58,7 @@ module _ {D : Type 0} (disk : Disk D) where
   abbrev pub IsNotOpened : D → D → PairFault → Type 0
   IsNotOpened d e fault = ((d' : D) × (e' : D) × IsPairRefused session_keeping disk disk d e d' e' fault)
       ⊎ ((v : StoreValue D SessionValue Action) × (w : StoreValue D SessionValue Action) × (fault ≡ Second DiskFailed)
-      × IsPairOpened session_keeping disk disk d e v w × ¬ (IsOne v w))
+      × IsPairOpened session_keeping disk disk d e v w × (w.failed ≡ true))
 
   -- the same, by whether the first of them was the disk, or the copy
   abbrev pub IsUnopened : Bool → D → D → JoinFault → Type 0

@@ -44,7 +44,7 @@ pub fn settle_served<A: SectorDisk + Drop, B: SectorDisk + Drop, K: Kept>(
     second: &mut Store<B, K>,
 ) -> bool
     ensures told { MayTell K.kept A.disk B.disk first.old second.old result first.new second.new }
-    ensures untold { result ≡ false → CannotTell first.old second.old first.new second.new }
+    ensures untold { result ≡ false → CannotTell A.disk B.disk first.old second.old first.new second.new }
     ensures shown { result ≡ true → StaysShown first.old second.old first.new second.new }
     ensures settled { Continues K.kept A.disk first.old [] first.new × Continues K.kept B.disk second.old [] second.new }
     ensures confirmed { StaysConfirmed first.old first.new × StaysConfirmed second.old second.new }

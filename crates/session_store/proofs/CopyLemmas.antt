@@ -1,5 +1,5 @@
 -- Bringing a state to a disk of an older epoch.
-use Rattle.std.proofs.Common.{◌≡◌, ◌≢◌, ◌<◌, ◌≤◌, ◌+◌, ◌-◌, ◌^◌, ℕ, List, [], Bool, Option, Some, None, Result, Ok, Err, inl, inr, refl, sym, ap, subst, arith}
+use Rattle.std.proofs.Common.{◌≡◌, ◌≢◌, ◌<◌, ◌≤◌, ◌+◌, ◌-◌, ◌^◌, ℕ, List, [], Bool, false, Option, Some, None, Result, Ok, Err, inl, inr, refl, sym, ap, subst, arith}
 use Rattle.std.proofs.lemmas.Bool.{cases_Bool}
 use Rattle.sector_disk.specs.Disk.{Image, Disk}
 use Rattle.sector_disk.specs.Runs.{EveryMoment}
@@ -13,7 +13,12 @@ use Rattle.session_store.specs.Epochs.{epoch_of, epoch_in}
 use Rattle.session_store.specs.Base.{HasEpoch, IsSettled, StandsForPrefix}
 use Rattle.session_store.specs.Snapshot.{SameButParts, NothingLater, WithSnapshot, IsSnapshotting, WritesSnapshot}
 use Rattle.session_store.specs.Sound.{IsSoundDisk}
-use Rattle.session_store.specs.Copying.{BeginsCopy, IsOldOrNew}
+use Rattle.session_store.specs.Answers.{Checkpoints}
+use Rattle.session_store.specs.ReadFaults.{checkpoint_fault}
+use Rattle.session_store.specs.declared.fault.CheckpointFault.{CheckpointFault}
+use Rattle.session_store.specs.declared.fault.CheckpointFault.TheVariants.{Failed as CheckpointFailed, EpochsSpent as CheckpointEpochsSpent, Disk as CheckpointDisk}
+use Rattle.session_store.specs.declared.fault.StoreFault.{StoreFault}
+use Rattle.session_store.specs.Copying.{BeginsCopy, CannotPrepare, IsOldOrNew}
 use Rattle.session_store.specs.Pair.{IsSide}
 use Rattle.session_store.specs.Value.{StoreValue, IsStore}
 use Rattle.session_store.specs.Store.{IsSoundStore}
@@ -23,6 +28,7 @@ use Rattle.session_store.proofs.StandsLemmas.{fold-nil}
 use Rattle.session_store.proofs.BaseLemmas.{settled-stands, settled-same}
 use Rattle.session_store.proofs.SnapshotLemmas.{newer_cases, nothing_later, nothing_later-same, stands-settled, with_snapshot-settled}
 use Rattle.session_store.proofs.StoreLemmas.{settled-sound}
+use Rattle.session_store.proofs.SettlingLemmas.{not_both}
 use Rattle.session_store.proofs.OpenLemmas.{prefix-none}
 
 -- nothing of an epoch above this one is of one above a later one
@@ -55,6 +61,15 @@ apart-next own epoch next shared is_next same =
     let at = places epoch in
     let again : place next ≡ place (epoch + 1) = ap place is_next in
     omega (arith, shared, same, again, at.1, at.2, at.3)
+
+-- why no checkpoint was made is why a store was not made ready for a copy
+pub cannot-prepare : {D S A R : Type 0} (kept : Keeping S A R) (disk : Disk D) (old new : StoreValue D S A) (fault : CheckpointFault)
+    (told : StoreFault) → told ≡ checkpoint_fault fault → Checkpoints kept disk old new (Err fault) → old.failed ≡ false
+    → CannotPrepare disk old new told
+cannot-prepare kept disk old new CheckpointFailed told is why works = not_both old why.0 works
+cannot-prepare kept disk old new CheckpointEpochsSpent told is why works =
+    subst (CannotPrepare disk old new) (sym is) (why.1, why.2)
+cannot-prepare kept disk old new CheckpointDisk told is why works = subst (CannotPrepare disk old new) (sym is) why.3
 
 -- the store that begins there is one
 pub begun-store : {D S A R : Type 0} (kept : Keeping S A R) (disk : Disk D) (new : D) (base s : S) (pending : List A) (epoch : ℕ) (lost : Bool)

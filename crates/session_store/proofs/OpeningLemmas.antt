@@ -8,7 +8,7 @@ use Rattle.session_store.specs.declared.reading.Header.{Header}
 use Rattle.session_store.specs.declared.fault.StoreFault.{StoreFault}
 use Rattle.session_store.specs.declared.fault.StoreFault.TheVariants.{Disk as DiskFailed, TooSmall, Damaged, NotFormatted, EpochsSpent, NoMemory}
 use Rattle.session_store.specs.Stands.{header_in, after_state, after_parts, after_header, recovered, replay, parts_from}
-use Rattle.session_store.specs.Opening.{IsCause, reading_from, reading}
+use Rattle.session_store.specs.Opening.{IsCause, HasNext, reading_from, reading}
 
 -- the cause of a call is one of the call around it
 pub cause-from : {X Y : Type 0} (inner outer : Type 0) (mid before now : ℕ) (found : Result X StoreFault) (all : Result Y StoreFault)
@@ -105,6 +105,19 @@ module _ {S A R : Type 0} (kept : Keeping S A R) (image : Image) where
   cause-stands s honest before now fault holds stands (inl failed) = inl failed.0
   cause-stands s honest before now fault holds stands (inr (none_rose, inl none)) = inr (inr none)
   cause-stands s honest before now fault holds stands (inr (none_rose, inr is)) = inr (inl (reading-stands s fault stands (is.2 holds)))
+
+  -- an image of which a state is read has a header of an epoch before the last
+  pub reading-next : (s : S) → reading kept image ≡ Ok s → HasNext image
+  reading-next s is = of_header (header_in image) refl
+    where
+      of_header : (o : Option Header) → header_in image ≡ o → HasNext image
+      of_header None none = let never : Err NotFormatted ≡ Ok s = sym (reading-none (sym none)) ∙ is in cc
+      of_header (Some h) some = (
+        h,
+        some,
+        λ last.
+            let never : Err EpochsSpent ≡ Ok s = sym (reading-spent h (sym some) last) ∙ is in cc,
+      )
 
   -- what is read of an image is what it stands for
   pub reading-ok : (s : S) → reading kept image ≡ Ok s → recovered kept image ≡ Ok s

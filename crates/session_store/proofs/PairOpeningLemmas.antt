@@ -1,6 +1,6 @@
 -- Opening a pair of disks.
-use Rattle.std.proofs.Common.{◌≡◌, ◌≢◌, ◌<◌, ◌≤◌, ℕ, List, [], ◌++◌, Option, Some, None, Ok, Err, inl, inr, ⊎_elim, refl, sym, ap, subst, ◌∙◌, arith}
-use Rattle.sector_disk.specs.Disk.{Image, Disk}
+use Rattle.std.proofs.Common.{◌≡◌, ◌≢◌, ◌<◌, ◌≤◌, ◌+◌, ◌-◌, ◌^◌, false, ℕ, List, [], ◌++◌, Option, Some, None, Ok, Err, inl, inr, ⊎_elim, refl, sym, ap, subst, ◌∙◌, arith}
+use Rattle.sector_disk.specs.Disk.{Image, Disk, Rose}
 use Rattle.sector_disk.specs.Runs.{EveryMoment, Quiet}
 use Rattle.sector_disk.proofs.ImageLaws.{image_is}
 use Rattle.sector_disk.proofs.RunLaws.{weakens, joins, remains_joins, only_read_leaves}
@@ -8,20 +8,20 @@ use Rattle.session_store.specs.Keeping.{Keeping, fold}
 use Rattle.session_store.specs.declared.reading.Header.{Header}
 use Rattle.session_store.specs.Stands.{header_in, after_header, recovered}
 use Rattle.session_store.specs.declared.fault.StoreFault.{StoreFault}
-use Rattle.session_store.specs.declared.fault.StoreFault.TheVariants.{NotFormatted}
+use Rattle.session_store.specs.declared.fault.StoreFault.TheVariants.{Disk as DiskFailed, TooSmall, NotFormatted, Damaged, EpochsSpent, NoMemory}
 use Rattle.session_store.specs.Epochs.{epoch_of, epoch_in}
 use Rattle.session_store.specs.Base.{HasEpoch, StandsForPrefix}
 use Rattle.session_store.specs.Snapshot.{NothingLater}
 use Rattle.session_store.specs.Sound.{IsSoundDisk}
-use Rattle.session_store.specs.Opening.{IsOnly, IsStillSound, Opens, IsNotOpened, reading}
+use Rattle.session_store.specs.Opening.{Causes, HasNext, IsOnly, IsStillSound, Opens, Refuses, reading}
 use Rattle.session_store.specs.Copying.{IsOrderly, IsOldOrNew}
-use Rattle.session_store.specs.PairOpening.{IsOldOrRead, CopiesSoundly, Joins, IsNotJoined, IsNotCompared, IsPairOpened, IsPairRefused}
+use Rattle.session_store.specs.PairOpening.{IsOldOrRead, CopiesSoundly, Joins, CannotJoin, IsNotJoined, IsNotCompared, IsPairOpened, RefusesFor, IsPairRefused}
 use Rattle.session_store.specs.declared.fault.PairFault.{PairFault}
-use Rattle.session_store.specs.declared.fault.PairFault.TheVariants.{First, SecondNewer}
+use Rattle.session_store.specs.declared.fault.PairFault.TheVariants.{First, Second, SecondNewer}
 use Rattle.session_store.specs.Value.{StoreValue}
 use Rattle.session_store.specs.Store.{IsSoundStore}
 use Rattle.session_store.proofs.AgeLemmas.{has_epoch-is}
-use Rattle.session_store.proofs.OpeningLemmas.{reading-ok}
+use Rattle.session_store.proofs.OpeningLemmas.{reading-ok, reading-next}
 use Rattle.session_store.proofs.OpenLemmas.{prefix-none, quiet-still, still-sound}
 use Rattle.session_store.proofs.StoreLemmas.{of_nil}
 use Rattle.session_store.proofs.JoinLemmas.{sound-order}
@@ -97,16 +97,23 @@ module _ {D E S A R : Type 0} (kept : Keeping S A R) (first : Disk D) (second : 
     (v : StoreValue D S A) (read : Quiet first d d1) (read' : Quiet second e e1) (opens : Opens kept first d1 v)
     (is_own : second.honest e → own ≡ epoch_in (second.reads e))
     (settled : second.honest e → IsOnly (second.may_leave e1) (second.reads e))
-    (not_newer : first.honest d → own ≤ epoch_in (first.reads d)) where
-  -- the store is of a later epoch than the second disk
-  opened-above : first.honest d → own < v.epoch
-  opened-above honest =
+    (not_newer : first.honest d → own ≤ epoch_in (first.reads d)) (large : 2048 ≤ first.count d) (large' : 2048 ≤ second.count e)
+    (no_fault : first.faults d1 ≡ first.faults d) (no_fault' : second.faults e1 ≡ second.faults e) where
+  -- the store is of the epoch after the first disk's
+  opened-next : first.honest d → v.epoch ≡ epoch_in (first.reads d) + 1
+  opened-next honest =
       let next = opens.next_epoch (read.remains.stays_honest honest) in
       let is : epoch_in (first.reads d) ≡ next.0
       = ap epoch_in (sym (reads-same kept first d d1 read honest)) ∙ has_epoch-is next.0 (first.reads d1) next.1 in
-      let below = not_newer honest in
       let after = next.2 in
-      omega (arith, is, below, after)
+      omega (arith, is, after)
+
+  -- and of a later one than the second disk
+  opened-above : first.honest d → own < v.epoch
+  opened-above honest =
+      let next = opened-next honest in
+      let below = not_newer honest in
+      omega (arith, next, below)
 
   opened-reads : first.honest d → reading kept (first.reads d) ≡ Ok v.state
   opened-reads honest =
@@ -153,7 +160,11 @@ module _ {D E S A R : Type 0} (kept : Keeping S A R) (first : Disk D) (second : 
   pub pair-opened : (v2 : StoreValue D S A) (w2 : StoreValue E S A) → Joins kept first second v e1 own v2 w2
       → IsPairOpened kept first second d e v2 w2
   pair-opened v2 w2 joined = record {
+    large = (large, large');
+    not_newer = λ honest honest'. subst (λ (n : ℕ). n ≤ epoch_in (first.reads d)) (is_own honest') (not_newer honest);
     works = joined.works opens.works;
+    lost = λ failed. subst (λ (n : ℕ). Rose n (second.faults w2.disk)) no_fault' (joined.lost opens.works failed);
+    none_pending = joined.none_pending opens.opened.none_pending;
     state = λ honest. opened-reads honest ∙ ap (λ (x : S). Ok x) (sym joined.state);
     told = λ sound orderly. joined.told (record {
       works = opens.works;
@@ -171,9 +182,28 @@ module _ {D E S A R : Type 0} (kept : Keeping S A R) (first : Disk D) (second : 
     second_moments = λ sound sound'. copied-moments w2.disk sound sound' joined.moments;
   }
 
+  -- why they were not joined is why the pair was not opened
+  not_joined-refuses : (d2 : D) (e2 : E) (fault : PairFault) → CannotJoin kept first second v e1 d2 e2 fault
+      → RefusesFor kept first second d e d2 e2 fault
+  not_joined-refuses d2 e2 (First NoMemory) why = λ honest. reading-next kept (first.reads d) v.state (opened-reads honest)
+  not_joined-refuses d2 e2 (First DiskFailed) why =
+      subst (λ (n : ℕ). Rose n (first.faults d2)) (opens.no_fault ∙ no_fault) why
+  not_joined-refuses d2 e2 (First EpochsSpent) (inl last) = λ honest.
+      let next = opened-next honest in inr (inl (omega (arith, last, next)))
+  not_joined-refuses d2 e2 (First EpochsSpent) (inr lost) = λ honest.
+      let next = opened-next honest in
+      let few = lost.0 in
+      inr (inr (omega (arith, few, next), subst (λ (n : ℕ). Rose n (second.faults e2)) no_fault' lost.1))
+  not_joined-refuses d2 e2 (First TooSmall) why = absurd why
+  not_joined-refuses d2 e2 (First NotFormatted) why = absurd why
+  not_joined-refuses d2 e2 (First (Damaged at)) why = absurd why
+  not_joined-refuses d2 e2 (Second fault) why = absurd why
+  not_joined-refuses d2 e2 SecondNewer why = absurd why
+
   pub pair-not_joined : (d2 : D) (e2 : E) (fault : PairFault) → IsNotJoined kept first second v e1 own d2 e2 fault
       → IsPairRefused kept first second d e d2 e2 fault
   pair-not_joined d2 e2 fault not = record {
+    cause = not_joined-refuses d2 e2 fault (not.cause opens.works);
     first_remains = remains_joins first d v.disk d2
         (remains_joins first d d1 v.disk read.remains opens.opened.remains) not.first_remains;
     second_remains = remains_joins second e e1 e2 read'.remains not.second_remains;
@@ -184,20 +214,48 @@ module _ {D E S A R : Type 0} (kept : Keeping S A R) (first : Disk D) (second : 
 
 module _ {D E S A R : Type 0} (kept : Keeping S A R) (first : Disk D) (second : Disk E) (d d1 : D) (e e1 : E)
     (read : Quiet first d d1) (read' : Quiet second e e1) where
+  -- what was found on the first disk
+  found : {d2 : D} (fault : StoreFault) → fault ≢ DiskFailed → fault ≢ NoMemory
+      → Causes first d1 d2 (reading kept (first.reads d1)) fault → first.honest d → reading kept (first.reads d) ≡ Err fault
+  found fault other more (inl failed) honest = absurd (other failed.0)
+  found fault other more (inr (none, inl is)) honest = absurd (more is)
+  found fault other more (inr (none, inr is)) honest =
+      ap (reading kept) (sym (reads-same kept first d d1 read honest)) ∙ is.2 (read.remains.stays_honest honest)
+
+  -- why the first disk was not opened is why the pair was not
+  not_opened-refuses : (d2 : D) (e2 : E) (fault : StoreFault) → first.faults d1 ≡ first.faults d
+      → (fault ≡ NoMemory → first.honest d1 → HasNext (first.reads d1))
+      → Causes first d1 d2 (reading kept (first.reads d1)) fault → RefusesFor kept first second d e d2 e2 (First fault)
+  not_opened-refuses d2 e2 TooSmall no_fault memory (inl failed) = let never = failed.0 in absurd (cc)
+  not_opened-refuses d2 e2 TooSmall no_fault memory (inr (none, inl is)) = absurd (cc)
+  not_opened-refuses d2 e2 TooSmall no_fault memory (inr (none, inr is)) = absurd (is.1 refl)
+  not_opened-refuses d2 e2 DiskFailed no_fault memory (inl failed) = subst (λ (n : ℕ). Rose n (first.faults d2)) no_fault failed.1
+  not_opened-refuses d2 e2 DiskFailed no_fault memory (inr (none, inl is)) = absurd (cc)
+  not_opened-refuses d2 e2 DiskFailed no_fault memory (inr (none, inr is)) = absurd (is.0 refl)
+  not_opened-refuses d2 e2 NotFormatted no_fault memory why = λ honest. found NotFormatted (λ same. cc) (λ same. cc) why honest
+  not_opened-refuses d2 e2 (Damaged at) no_fault memory why = λ honest. found (Damaged at) (λ same. cc) (λ same. cc) why honest
+  not_opened-refuses d2 e2 EpochsSpent no_fault memory why = λ honest. inl (found EpochsSpent (λ same. cc) (λ same. cc) why honest)
+  not_opened-refuses d2 e2 NoMemory no_fault memory why = λ honest.
+      subst HasNext (reads-same kept first d d1 read honest) (memory refl (read.remains.stays_honest honest))
+
   -- the first disk was not opened
-  pub first-not_opened : (d2 : D) (fault : PairFault) → fault ≢ SecondNewer → IsNotOpened kept first d1 d2
-      → IsPairRefused kept first second d e d2 e1 fault
-  first-not_opened d2 fault other not = record {
-    first_remains = remains_joins first d d1 d2 read.remains not.remains;
+  pub first-not_opened : (d2 : D) (fault : StoreFault) → first.faults d1 ≡ first.faults d → Refuses kept first d1 d2 fault
+      → IsPairRefused kept first second d e d2 e1 (First fault)
+  first-not_opened d2 fault no_fault refused = record {
+    cause = not_opened-refuses d2 e1 fault no_fault refused.unread.memory refused.unread.cause;
+    first_remains = remains_joins first d d1 d2 read.remains refused.not_opened.remains;
     second_remains = read'.remains;
-    first_moments = λ sound. still-after kept first d d1 read d2 sound (not.any_moment (read-sound kept first d d1 read sound));
+    first_moments = λ sound.
+        still-after kept first d d1 read d2 sound (refused.not_opened.any_moment (read-sound kept first d d1 read sound));
     second_moments = λ sound sound'. only-read kept second e e1 read' (first.reads d) sound';
-    newer = λ same. absurd (other same);
+    newer = λ same. absurd (first-not_newer fault same);
   }
 
   -- nothing more was done than to read them
-  pub only-looked : (fault : PairFault) → fault ≢ SecondNewer → IsPairRefused kept first second d e d1 e1 fault
-  only-looked fault other = record {
+  pub only-looked : (fault : PairFault) → fault ≢ SecondNewer → RefusesFor kept first second d e d1 e1 fault
+      → IsPairRefused kept first second d e d1 e1 fault
+  only-looked fault other why = record {
+    cause = why;
     first_remains = read.remains;
     second_remains = read'.remains;
     first_moments = λ sound. quiet-still kept first d d1 sound read;
@@ -208,6 +266,7 @@ module _ {D E S A R : Type 0} (kept : Keeping S A R) (first : Disk D) (second : 
   -- the epochs were not compared, or are not in order
   pub not-compared : (fault : PairFault) → IsNotCompared first second d e d1 e1 fault → IsPairRefused kept first second d e d1 e1 fault
   not-compared fault cause = record {
+    cause = cause_of cause;
     first_remains = read.remains;
     second_remains = read'.remains;
     first_moments = λ sound. quiet-still kept first d d1 sound read;
@@ -215,6 +274,11 @@ module _ {D E S A R : Type 0} (kept : Keeping S A R) (first : Disk D) (second : 
     newer = λ same honest honest'. (newer_of cause same honest honest', read.only_read honest, read'.only_read honest');
   }
     where
+      cause_of : IsNotCompared first second d e d1 e1 fault → RefusesFor kept first second d e d1 e1 fault
+      cause_of (inl is) = subst (RefusesFor kept first second d e d1 e1) (sym is.0) is.1
+      cause_of (inr (inl is)) = subst (RefusesFor kept first second d e d1 e1) (sym is.0) is.1
+      cause_of (inr (inr is)) = subst (RefusesFor kept first second d e d1 e1) (sym is.0) is.1
+
       newer_of : IsNotCompared first second d e d1 e1 fault → fault ≡ SecondNewer → first.honest d → second.honest e
           → epoch_in (first.reads d) < epoch_in (second.reads e)
       newer_of (inl is) same honest honest' = is.1 honest honest'

@@ -1,13 +1,13 @@
 -- Settling a pair of stores.
-use Rattle.std.proofs.Common.{◌≡◌, ◌⊎◌, ◌≤◌, ◌+◌, ℕ, List, [], ◌++◌, drop, Result, Ok, Err, true, false, inl, inr, ⊎_elim, refl, sym, ap, subst, ◌∙◌, arith}
+use Rattle.std.proofs.Common.{◌≡◌, ◌⊎◌, ◌<◌, ◌≤◌, ◌+◌, ◌-◌, ◌^◌, ℕ, List, [], ◌++◌, drop, Result, Ok, Err, true, false, inl, inr, ⊎_elim, refl, sym, ap, subst, ◌∙◌, arith}
 use Rattle.std.proofs.lemmas.List.{drop_all}
-use Rattle.sector_disk.specs.Disk.{Disk}
+use Rattle.sector_disk.specs.Disk.{Disk, Rose}
 use Rattle.session_store.specs.Keeping.{Keeping}
 use Rattle.session_store.specs.Value.{StoreValue}
 use Rattle.session_store.specs.Store.{Continues}
-use Rattle.session_store.specs.Answers.{Confirms}
+use Rattle.session_store.specs.Answers.{Confirms, Checkpoints}
 use Rattle.session_store.specs.Pair.{IsInStep, IsServedPair, IsToldPair}
-use Rattle.session_store.specs.Settling.{AreBothLost, IsSettledPair, CannotRise, CannotSettle, IsOver}
+use Rattle.session_store.specs.Settling.{AreBothLost, IsSettledPair, FailsSince, CannotRise, CannotSettle, IsOver}
 use Rattle.session_store.specs.declared.fault.CheckpointFault.{CheckpointFault}
 use Rattle.session_store.specs.declared.fault.CheckpointFault.TheVariants.{Failed, EpochsSpent, Disk as DiskFailed}
 use Rattle.session_store.specs.declared.fault.ConfirmFault.{ConfirmFault}
@@ -82,27 +82,42 @@ settled-first v w failed works (inl both) = not_both w failed both.1
 settled-first v w failed works (inr (inl (one, above))) = not_both v one.0 works
 settled-first v w failed works (inr (inr (other, above))) = above
 
--- why the one that is kept did not rise is why the pair is not settled
-pub second-cannot : {D E S A : Type 0} (v : StoreValue D S A) (w w' : StoreValue E S A) (epoch : ℕ) (fault : CheckpointFault)
-    → v.failed ≡ true → w.failed ≡ false → epoch ≡ v.epoch → CannotRise epoch w w' fault → CannotSettle v w v w' fault
-second-cannot v w w' epoch Failed failed works is why = not_both w why.0 works
-second-cannot v w w' epoch DiskFailed failed works is why = (inl (failed, works), (failed, why.1))
-second-cannot v w w' epoch EpochsSpent failed works is why =
-    let spent = why.0 in (inl ((failed, works), omega (arith, spent, is)), refl, why.1)
+-- why a checkpoint on the way up was not made is why a store did not rise
+pub cannot-rise : {D S A R : Type 0} (kept : Keeping S A R) (disk : Disk D) (v v1 v2 : StoreValue D S A) (epoch begun : ℕ)
+    (fault : CheckpointFault)
+    → Checkpoints kept disk v1 v2 (Err fault) → v1.failed ≡ v.failed → disk.faults v1.disk ≡ disk.faults v.disk
+    → (v1 ≡ v) ⊎ ((v.failed ≡ false) × (v.epoch < begun)) → v1.epoch < 2 ^ 64 - 1 → CannotRise disk epoch v v2 fault
+cannot-rise kept disk v v1 v2 epoch begun Failed did same no_fault (inl none) below = (sym same ∙ did.0, did.1 ∙ none)
+cannot-rise kept disk v v1 v2 epoch begun Failed did same no_fault (inr rose) below = not_both v (sym same ∙ did.0) rose.0
+cannot-rise kept disk v v1 v2 epoch begun EpochsSpent did same no_fault so below = let spent = did.1 in absurd (omega (arith, spent, below))
+cannot-rise {D} {S} {A} {R} kept disk v v1 v2 epoch begun DiskFailed did same no_fault so below = (
+  sym same ∙ did.0,
+  ap (λ (x : StoreValue D S A). x.failed) did.2,
+  subst (λ (n : ℕ). Rose n (disk.faults v2.disk)) no_fault did.3,
+)
 
-pub first-cannot : {D E S A : Type 0} (v v' : StoreValue D S A) (w : StoreValue E S A) (epoch : ℕ) (fault : CheckpointFault)
-    → w.failed ≡ true → v.failed ≡ false → epoch ≡ w.epoch → CannotRise epoch v v' fault → CannotSettle v w v' w fault
-first-cannot v v' w epoch Failed failed works is why = not_both v why.0 works
-first-cannot v v' w epoch DiskFailed failed works is why = (inr (failed, works), (why.1, failed))
-first-cannot v v' w epoch EpochsSpent failed works is why =
-    let spent = why.0 in (inr ((failed, works), omega (arith, spent, is)), why.1, refl)
+module _ {D E S A : Type 0} (first : Disk D) (second : Disk E) where
+  -- why the one that is kept did not rise is why the pair is not settled
+  pub second-cannot : (v : StoreValue D S A) (w w' : StoreValue E S A) (epoch : ℕ) (fault : CheckpointFault) → v.failed ≡ true
+      → w.failed ≡ false → epoch ≡ v.epoch → CannotRise second epoch w w' fault → CannotSettle first second v w v w' fault
+  second-cannot v w w' epoch Failed failed works is why = not_both w why.0 works
+  second-cannot v w w' epoch DiskFailed failed works is why = (inl ((failed, works), why.2), (failed, why.1))
+  second-cannot v w w' epoch EpochsSpent failed works is why =
+      let spent = why.0 in (inl ((failed, works), omega (arith, spent, is)), refl, why.1)
 
--- nothing more may be told of a pair that is not settled
-pub cannot-over : {D E S A : Type 0} (v v' : StoreValue D S A) (w w' : StoreValue E S A) (fault : CheckpointFault)
-    → CannotSettle v w v' w' fault → IsOver v' w' fault
-cannot-over v v' w w' Failed why = subst (λ x. AreBothLost x w') (sym why.1) (subst (λ y. AreBothLost v y) (sym why.2) why.0)
-cannot-over v v' w w' DiskFailed why = why.1
-cannot-over v v' w w' EpochsSpent why = subst (λ x. IsOver x w' EpochsSpent) (sym why.1) (subst (λ y. IsOver v y EpochsSpent) (sym why.2) why.0)
+  pub first-cannot : (v v' : StoreValue D S A) (w : StoreValue E S A) (epoch : ℕ) (fault : CheckpointFault) → w.failed ≡ true
+      → v.failed ≡ false → epoch ≡ w.epoch → CannotRise first epoch v v' fault → CannotSettle first second v w v' w fault
+  first-cannot v v' w epoch Failed failed works is why = not_both v why.0 works
+  first-cannot v v' w epoch DiskFailed failed works is why = (inr ((failed, works), why.2), (why.1, failed))
+  first-cannot v v' w epoch EpochsSpent failed works is why =
+      let spent = why.0 in (inr ((failed, works), omega (arith, spent, is)), why.1, refl)
+
+  -- nothing more may be told of a pair that is not settled
+  pub cannot-over : (v v' : StoreValue D S A) (w w' : StoreValue E S A) (fault : CheckpointFault)
+      → CannotSettle first second v w v' w' fault → IsOver v' w' fault
+  cannot-over v v' w w' Failed why = subst (λ x. AreBothLost x w') (sym why.1) (subst (λ y. AreBothLost v y) (sym why.2) why.0)
+  cannot-over v v' w w' DiskFailed why = why.1
+  cannot-over v v' w w' EpochsSpent why = subst (λ x. IsOver x w' EpochsSpent) (sym why.1) (subst (λ y. IsOver v y EpochsSpent) (sym why.2) why.0)
 
 -- what confirming leaves: the state, and nothing pending where the store works
 pub confirmed-leaves : {D S A R : Type 0} (kept : Keeping S A R) (disk : Disk D) (v v' : StoreValue D S A)

@@ -1,8 +1,8 @@
 //! Bringing the state of a store to a second disk.
-ghost use Rattle.std.specs.Prelude.{◌≡◌, ◌≢◌, ◌<◌, ◌≤◌, ◌^◌, [], IfOk, IfErr, OnOk};
+ghost use Rattle.std.specs.Prelude.{◌≡◌, ◌≢◌, ◌<◌, ◌≤◌, ◌^◌, [], false, IfOk, IfErr, OnOk};
 ghost use Rattle.sector_disk.specs.Disk.{Rose};
 ghost use Rattle.sector_disk.specs.Runs.{Quiet};
-ghost use Rattle.session_store.specs.Copying.{BeginsCopy};
+ghost use Rattle.session_store.specs.Copying.{BeginsCopy, CannotPrepare, GoesOn};
 ghost use Rattle.session_store.specs.Epochs.{epoch_in};
 ghost use Rattle.session_store.specs.Form.{place};
 ghost use Rattle.session_store.specs.Layout.{sector_count};
@@ -13,7 +13,7 @@ use crate::headers::find_header;
 use crate::opening::raise_barrier;
 use crate::room::copy_state;
 use crate::snapshot::{place_of, write_snapshot};
-use crate::{CheckpointFault, Kept, Store, StoreFault};
+use crate::{Kept, Store, StoreFault};
 use arrayvec::ArrayVec;
 use sector_disk::{DiskFault, SectorDisk};
 use std::alloc::Global;
@@ -23,6 +23,7 @@ pub(crate) fn settle_epoch<D: SectorDisk>(disk: &mut D) -> Result<u64, DiskFault
     requires { sector_count ≤ D.disk.count disk.old }
     ensures quiet { Quiet D.disk disk.old disk.new }
     ensures fault { IfErr result (λ _. Rose (D.disk.faults disk.old) (D.disk.faults disk.new)) }
+    ensures no_fault { OnOk result (D.disk.faults disk.new ≡ D.disk.faults disk.old) }
     ensures epoch { D.disk.honest disk.old → IfOk result (λ epoch. epoch ≡ epoch_in (D.disk.reads disk.old)) }
     ensures settled { D.disk.honest disk.old → OnOk result (IsOnly (D.disk.may_leave disk.new) (D.disk.reads disk.old)) }
 {
@@ -44,14 +45,15 @@ fn move_apart<D: SectorDisk + Drop, K: Kept>(
     ensures continues { Continues K.kept D.disk store.old [] store.new }
     ensures apart { OnOk result (place store.new.epoch ≢ place epoch) }
     ensures same { OnOk result ((store.new.failed ≡ store.old.failed) × (store.new.state ≡ store.old.state)) }
+    ensures goes_on { OnOk result (GoesOn D.disk store.old store.new) }
+    ensures fault { store.old.failed ≡ false → IfErr result (CannotPrepare D.disk store.old store.new) }
 {
     if place_of(store.epoch()) != place_of(epoch) {
         return Ok(());
     }
     match store.checkpoint() {
         Ok(()) => Ok(()),
-        Err(CheckpointFault::EpochsSpent) => Err(StoreFault::EpochsSpent),
-        Err(_) => Err(StoreFault::Disk),
+        Err(fault) => Err(StoreFault::from(fault)),
     }
 }
 
@@ -65,6 +67,8 @@ pub(crate) fn prepare_copy<D: SectorDisk + Drop, K: Kept>(
     ensures continues { Continues K.kept D.disk store.old [] store.new }
     ensures apart { OnOk result (place store.new.epoch ≢ place epoch) }
     ensures same { OnOk result ((store.new.failed ≡ store.old.failed) × (store.new.state ≡ store.old.state)) }
+    ensures goes_on { OnOk result (GoesOn D.disk store.old store.new) }
+    ensures fault { store.old.failed ≡ false → IfErr result (CannotPrepare D.disk store.old store.new) }
     ensures states { IfOk result (λ both. (both.0 ≡ store.new.state) × (both.1 ≡ store.new.state)) }
 {
     let Ok(base) = copy_state(alloc, store.state()) else {

@@ -138,6 +138,20 @@ pub enum CheckpointFault {
     Disk,
 }
 
+impl From<CheckpointFault> for StoreFault {
+    ghost use Rattle.std.specs.Prelude.{◌≡◌};
+    ghost use Rattle.session_store.specs.ReadFaults.{checkpoint_fault};
+
+    ghost from_gives = { λ fault told. told ≡ checkpoint_fault fault };
+
+    fn from(fault: CheckpointFault) -> StoreFault {
+        match fault {
+            CheckpointFault::EpochsSpent => StoreFault::EpochsSpent,
+            CheckpointFault::Failed | CheckpointFault::Disk => StoreFault::Disk,
+        }
+    }
+}
+
 /// Why a pair of disks was not opened.
 #[derive(Clone, Copy, Debug, PartialEq, Eq, Error)]
 pub enum PairFault {

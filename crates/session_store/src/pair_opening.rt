@@ -1,5 +1,5 @@
 //! Opening a pair of disks.
-ghost use Rattle.std.specs.Prelude.{◌≡◌, ◌≤◌, IfOk, IfErr};
+ghost use Rattle.std.specs.Prelude.{◌≡◌, ◌<◌, ◌≤◌, Err, IfOk, IfErr};
 ghost use Rattle.session_store.specs.Layout.{sector_count};
 ghost use Rattle.session_store.specs.PairOpening.{ComparesEpochs, IsNotJoined, IsPairOpened, IsPairRefused, Joins};
 
@@ -78,10 +78,10 @@ fn join_disk<A: SectorDisk + Drop, B: SectorDisk + Drop, K: Kept>(
             let mut copy = begin_copy(second, first.epoch(), base, state);
             match settle_pair(&mut first, &mut copy) {
                 Ok(_) => Ok((first, copy)),
-                Err(_) => Err(UnopenedPair {
+                Err(fault) => Err(UnopenedPair {
                     first: first.into_disk(),
                     second: copy.into_disk(),
-                    fault: PairFault::First(StoreFault::Disk),
+                    fault: PairFault::First(StoreFault::from(fault)),
                 }),
             }
         }
@@ -90,13 +90,18 @@ fn join_disk<A: SectorDisk + Drop, B: SectorDisk + Drop, K: Kept>(
 
 /// Opens a pair of disks, of which the second is not the newer one by its epoch: opens the first, and brings its state to
 /// the second, whatever that stood for. Where a call of the second fails in that, the pair is opened all the same, and that
-/// disk is lost. Both disks come back at an error: `First` where the first was not opened or a call of it failed, `Second`
-/// where that one is too small or a call of it failed before anything was written, `SecondNewer` where its epoch is later.
+/// disk is lost. Both disks come back at an error: `First` where the first was not opened, a call of it failed or no epochs are
+/// left for it, `Second` where that one is too small or a call of it failed before anything was written, `SecondNewer` where its
+/// epoch is later.
 pub fn open_pair<A: SectorDisk + Drop, B: SectorDisk + Drop, K: Kept>(
     alloc: Global,
     mut first: A,
     mut second: B,
 ) -> Result<(Store<A, K>, Store<B, K>), UnopenedPair<A, B>>
+    ensures first_small { A.disk.count first < sector_count
+        → result ≡ Err (record { first = first; second = second; fault = PairFault.First StoreFault.TooSmall }) }
+    ensures second_small { sector_count ≤ A.disk.count first → B.disk.count second < sector_count
+        → result ≡ Err (record { first = first; second = second; fault = PairFault.Second StoreFault.TooSmall }) }
     ensures opens { IfOk result (λ both. IsPairOpened K.kept A.disk B.disk first second both.0 both.1) }
     ensures refuses { IfErr result (λ e. IsPairRefused K.kept A.disk B.disk first second e.first e.second e.fault) }
 {

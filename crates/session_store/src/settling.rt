@@ -16,7 +16,7 @@ fn rise_above<D: SectorDisk + Drop, K: Kept>(
     ensures risen { OnOk result (epoch + 2 ≤ store.new.epoch) }
     ensures same { OnOk result ((store.new.failed ≡ store.old.failed) × (store.new.state ≡ store.old.state)) }
     ensures rests { epoch + 2 ≤ store.old.epoch → IsOk result × (store.new ≡ store.old) }
-    ensures fault { IfErr result (CannotRise epoch store.old store.new) }
+    ensures fault { IfErr result (CannotRise D.disk epoch store.old store.new) }
 {
     let own = store.epoch();
     if epoch > u64::MAX - 2 {
@@ -45,7 +45,7 @@ pub fn settle_pair<A: SectorDisk + Drop, B: SectorDisk + Drop, K: Kept>(
     ensures first { Continues K.kept A.disk first.old [] first.new }
     ensures second { Continues K.kept B.disk second.old [] second.new }
     ensures settled { IsSettledPair first.old second.old → IsOk result × (first.new ≡ first.old) × (second.new ≡ second.old) }
-    ensures fault { IfErr result (CannotSettle first.old second.old first.new second.new) }
+    ensures fault { IfErr result (CannotSettle A.disk B.disk first.old second.old first.new second.new) }
 {
     match (first.has_failed(), second.has_failed()) {
         (false, false) => Ok(PairStanding::Level),

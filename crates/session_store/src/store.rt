@@ -1,7 +1,7 @@
 //! The store, and what it answers at any time.
 ghost use Rattle.std.specs.Prelude.{◌≡◌, ◌<◌, ◌≤◌, ◌^◌, Some, length};
 ghost use Rattle.session_store.specs.Keeping.{fold};
-ghost use Rattle.session_store.specs.Layout.{sector_count};
+ghost use Rattle.session_store.specs.Layout.{record_limit, sector_count};
 ghost use Rattle.session_store.specs.Sound.{IsSoundDisk};
 ghost use Rattle.session_store.specs.Store.{IsSoundStore};
 
@@ -78,6 +78,15 @@ impl<D: SectorDisk + Drop, K: Kept> Store<D, K> {
         ensures fits { result < 2 ^ 64 }
     {
         self.epoch
+    }
+
+    /// The number of records that the journal has in this epoch, at most 1,024: one of each action accepted since its snapshot.
+    pub fn records(&self) -> u32
+        ensures records { result ≡ self.now.records }
+        ensures few { result ≤ record_limit }
+        ensures recorded { length self.now.pending ≤ result }
+    {
+        self.records
     }
 
     /// Whether a call of the disk has failed; `submit`, `confirm` and `checkpoint` then answer `Failed`.

@@ -23,7 +23,7 @@ returns-clause-second g c =
 pub returns-clause-fault : goal.returns-clause-fault
 returns-clause-fault g c =
     IfErr-weaker c.settle_pair.result _ _
-    (λ fault why. cannot-over c.confirm.new.self c.settle_pair.new.first c.confirm-2.new.self c.settle_pair.new.second fault why)
+    (λ fault why. cannot-over g.A.SectorDisk.disk g.B.SectorDisk.disk c.confirm.new.self c.settle_pair.new.first c.confirm-2.new.self c.settle_pair.new.second fault why)
     c.settle_pair.ensures.fault
 
 pub returns-clause-standing : goal.returns-clause-standing

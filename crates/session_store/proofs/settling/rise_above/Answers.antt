@@ -1,5 +1,6 @@
 use Rattle.std.proofs.Common.{◌+◌, [], inl, inr, refl, sym, ap, arith, ◌∙◌}
 use Rattle.session_store.proofs.CallLaws.{continues_begins, continues_joins}
+use Rattle.session_store.proofs.SettlingLemmas.{cannot-rise}
 use Rattle.session_store.proofs.settling.rise_above.Goals as goal
 
 pub loop-begun-init : goal.loop-begun-init
@@ -8,6 +9,7 @@ loop-begun-init g c = record {
   epoch = sym c.epoch-own.ensures.epoch;
   failed = refl;
   state = refl;
+  no_fault = refl;
   least = omega (arith, c.epoch-own.ensures.epoch);
   most = inl c.epoch-own.ensures.epoch;
   so_far = inl refl;
@@ -23,6 +25,7 @@ loop-begun-preserved g c =
       epoch = ap (λ v. v.epoch) did.2 ∙ ap (λ n. n + 1) before.epoch;
       failed = ap (λ v. v.failed) did.2 ∙ before.failed;
       state = ap (λ v. v.state) did.2 ∙ before.state;
+      no_fault = c.in-Ok.ensures.no_fault ∙ before.no_fault;
       least = omega (arith, before.least);
       most = inr (omega (arith, c.loop-begun-test.true));
       so_far = inr (sym before.failed ∙ did.0, omega (arith, before.least));
@@ -35,3 +38,10 @@ pub returns-in-Err-clause-continues : goal.returns-in-Err-clause-continues
 returns-in-Err-clause-continues g c =
     continues_joins g.K.Kept.kept g.D.SectorDisk.disk c.args.store.now c.loop-begun.store c.checkpoint.new.self [] []
     c.loop-begun.invariant.continues c.checkpoint.ensures.continues
+
+pub returns-in-Err-clause-fault : goal.returns-in-Err-clause-fault
+returns-in-Err-clause-fault g c =
+    let so = c.loop-begun.invariant in
+    let below = c.loop-begun-test.true in
+    cannot-rise g.K.Kept.kept g.D.SectorDisk.disk c.args.store.now c.loop-begun.store c.checkpoint.new.self c.args.epoch c.loop-begun._begun c.in-Err.fault
+    c.in-Err.ensures.answer so.failed so.no_fault so.so_far (omega (arith, so.epoch, below, c.if-epoch.false))

@@ -34,7 +34,7 @@ returns-in-Err-clause-settled g c = λ settled.
 
 pub returns-in-Err-clause-fault : goal.returns-in-Err-clause-fault
 returns-in-Err-clause-fault g c =
-    second-cannot c.args.first.now c.args.second.now c.rise_above.new.store c.epoch.result c.in-Err.fault
+    second-cannot g.A.SectorDisk.disk g.B.SectorDisk.disk c.args.first.now c.args.second.now c.rise_above.new.store c.epoch.result c.in-Err.fault
     (sym c.in-true-false.ensures) (sym c.in-true-false.ensures') c.epoch.ensures.epoch c.in-Err.ensures.fault
 
 pub returns-in-Ok-rise_above-clause-told : goal.returns-in-Ok-rise_above-clause-told
@@ -63,7 +63,7 @@ returns-in-Err-rise_above-clause-settled g c = λ settled.
 
 pub returns-in-Err-rise_above-clause-fault : goal.returns-in-Err-rise_above-clause-fault
 returns-in-Err-rise_above-clause-fault g c =
-    first-cannot c.args.first.now c.rise_above-in-false-true.new.store c.args.second.now c.epoch-in-false-true.result c.in-Err-rise_above.fault
+    first-cannot g.A.SectorDisk.disk g.B.SectorDisk.disk c.args.first.now c.rise_above-in-false-true.new.store c.args.second.now c.epoch-in-false-true.result c.in-Err-rise_above.fault
     (sym c.in-false-true.ensures') (sym c.in-false-true.ensures) c.epoch-in-false-true.ensures.epoch c.in-Err-rise_above.ensures.fault
 
 pub returns-in-false-false-clause-first : goal.returns-in-false-false-clause-first
