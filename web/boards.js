@@ -412,10 +412,15 @@ async function loadBoards(asked) {
   return true;
 }
 
+// Whether a board of this round, at which nothing is played, has not been told as over, since it was passed out in no time.
+const lacksBoards = (place, now) => now === null && place.table !== null
+  && told.boards.filter((board) => board.round === String(place.round)).length <= Number(place.table.last) - Number(place.table.first);
+
 // Looks at the boards where one was over since the page looked last, which is shown then; and else now and then.
 async function lookAtBoards(asked, place, now) {
   const ended = atBoard !== null && atBoard.key === asked && atBoard.board !== now ? atBoard : null;
-  const isNew = (ended || told.key !== asked || Date.now() - told.at > BOARDS_LAST) && await loadBoards(asked);
+  const lasts = lacksBoards(place, now) ? LOOK : BOARDS_LAST;
+  const isNew = (ended || told.key !== asked || Date.now() - told.at > lasts) && await loadBoards(asked);
   if (key !== asked) return;
   atBoard = now === null ? null : { key: asked, board: now, round: String(place.round) };
   const board = ended && told.boards.find((one) => String(one.number) === ended.board && one.round === ended.round);

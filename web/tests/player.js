@@ -897,6 +897,15 @@ run({
     assert.strictEqual(untold.text("login-head"), "Bridge table");
   },
 
+  "a board that is not told yet is asked for again once the table is done": async () => {
+    const all = ["4 1 2 1 NS", "5 1 2 2 NS", "6 1 2 3 NS"].map((BOARD) => board({ BOARD }));
+    for (const [told, asks] of [[all.slice(0, 1), true], [all, false]]) {
+      const page = await seated(place(), "ERR 8 NotCurrent\n", "OK\n", boards(...told));
+      page.now += 1;
+      assert.strictEqual((await page.look()).includes(`/boards ${KEY}`), asks);
+    }
+  },
+
   "between rounds it is told whom one meets next": async () => {
     const meets = "OK\nNOW 9 14400\nMEETS 3 2 Ann Dan Bob Cat\n.\n";
     for (const [next, pair, names] of [["1 W 7 9", "3", ["NAnn", "SBob"]], ["1 S 7 9", "2", ["EDan", "WCat"]]]) {
