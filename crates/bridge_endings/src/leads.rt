@@ -114,8 +114,9 @@ impl Search {
         let ruffed: i16 = if ruffed { 480 } else { 0 };
         let trump: i16 = if self.trump == Some(suit) { 72 } else { 0 };
         let length = around.leader.of_suit(suit).len().min(13) as i16;
-        let free = less_for_free(around.left, suit) + less_for_free(around.right, suit);
-        ruffed + trump + 21 * length + free
+        let left = less_for_free(around.left, suit);
+        let right = less_for_free(around.right, suit);
+        (ruffed + trump + 21 * length).saturating_add(left.saturating_add(right))
     }
 
     /// How good a low card of the suit is, by who has its highest card left, and whether the partner has the second.
@@ -150,9 +151,7 @@ impl Search {
 
 /// How much worse it is to lead the suit where an opponent has none of it: each card that it may throw away has to be tried,
 /// and the more it has, the more there are.
-fn less_for_free(opponent: CardSet, suit: Suit) -> i16
-    ensures { result ≤ 520 }
-{
+fn less_for_free(opponent: CardSet, suit: Suit) -> i16 {
     if opponent.of_suit(suit).is_empty() {
         40 * opponent.len().min(13) as i16
     } else {
