@@ -80,6 +80,7 @@ impl Leads {
 
 impl Search {
     /// Which leads are good.
+    #[inline(never)]
     pub fn leads(&self, hands: &[CardSet; 4], left: CardSet, leader: Seat) -> Leads {
         let mut leads = Leads::none();
         let around = Around {
