@@ -1,7 +1,7 @@
 -- The index that wins a trick, when one card more is played: the new card's where it beats the winner, else the winner's.
-use Rattle.std.proofs.Common.{◌≡◌, ℕ, ◌<◌, Bool, true, false, not, ◌&&◌, ◌||◌, ◌==◌, cond, nat_le, nat_lt, List, [], ◌∷◌, ◌++◌, length, get_or, Option, Some, None, unwrap_or, refl, sym, ap, ◌∙◌, arith, length-append}
+use Rattle.std.proofs.Common.{◌≡◌, ℕ, ◌<◌, ◌≤◌, ◌⊎◌, inl, inr, Bool, true, false, not, ◌&&◌, ◌||◌, ◌==◌, cond, nat_le, nat_lt, List, [], ◌∷◌, ◌++◌, length, get_or, Option, Some, None, unwrap_or, refl, sym, ap, ◌∙◌, arith, length-append}
 use Rattle.std.specs.List.{list_all, position_or_len}
-use Rattle.std.proofs.lemmas.Bool.{eq-eqb}
+use Rattle.std.proofs.lemmas.Bool.{eq-eqb, cases_lt}
 use Rattle.std.proofs.Math.Seq.{get_or-append_seam}
 use Rattle.std.proofs.lemmas.Bool.{lt-ltb}
 use Rattle.std.proofs.lemmas.Bool.Decides.{nat_tests}
@@ -9,6 +9,7 @@ use Rattle.std.proofs.lemmas.List.{get_or_append_left, get_or_default}
 use Rattle.std.proofs.lemmas.List.Folds.{list_all-append}
 use Rattle.std.proofs.lemmas.List.Sums.{AllPass-from_list_all, list_all-from_AllPass, position_or_len_is}
 use Rattle.bridge_cards.specs.declared.suit.Suit.{Suit}
+use Rattle.bridge_cards.specs.declared.suit.Suit.TheVariants.{Clubs, Diamonds, Hearts, Spades}
 use Rattle.bridge_cards.specs.Trick.{beats, is_or_beats, wins, winning_index}
 use Rattle.bridge_endings.specs.TrickValue.{IsWinning, IsKeptWinner, is_over}
 use Rattle.bridge_cards.specs.Card.{same_suit, card_suit}
@@ -155,9 +156,20 @@ true_and : (a b : Bool) → a ≡ true → (a && b) ≡ b
 true_and true b is = refl
 true_and false b is = cc
 
+-- no suit has a card beyond the deck
+beyond : (suit : Suit) (card : ℕ) → 52 ≤ card → is_of_suit suit card ≡ false
+beyond Clubs card out = grind (arith, nat_tests)
+beyond Diamonds card out = grind (arith, nat_tests)
+beyond Hearts card out = grind (arith, nat_tests)
+beyond Spades card out = grind (arith, nat_tests)
+
 -- of the whole deck those of a suit
-pub of_deck : (deck suited : ℕ) (suit : Suit) (card : ℕ) → has_card deck card ≡ true → has_card suited card ≡ (has_card deck card && is_of_suit suit card) → has_card suited card ≡ is_of_suit suit card
-of_deck deck suited suit card all suits = suits ∙ true_and (has_card deck card) (is_of_suit suit card) all
+pub of_deck : (deck suited : ℕ) (suit : Suit) (card : ℕ) → (card < 52 → has_card deck card ≡ true) → has_card suited card ≡ (has_card deck card && is_of_suit suit card) → has_card suited card ≡ is_of_suit suit card
+of_deck deck suited suit card all suits = at (cases_lt card 52)
+  where
+    at : (card < 52) ⊎ (52 ≤ card) → has_card suited card ≡ is_of_suit suit card
+    at (inl inside) = suits ∙ true_and (has_card deck card) (is_of_suit suit card) (all inside)
+    at (inr out) = suits ∙ ap (λ b. has_card deck card && b) (beyond suit card out) ∙ and_false (has_card deck card) ∙ sym (beyond suit card out)
 
 not_le : (card other : ℕ) → not (nat_le other card) ≡ nat_lt card other
 not_le card other = grind (arith, nat_tests)
@@ -193,3 +205,14 @@ over_trump suit card other is = or_and_none (same_suit other card && nat_lt card
 
 pub over_other : (suit : Suit) (card other : ℕ) → is_of_suit suit card ≡ false → ((same_suit other card && nat_lt card other) || is_of_suit suit other) ≡ is_over (Some suit) card other
 over_other suit card other is = or_and_not (same_suit other card && nat_lt card other) (is_of_suit suit other) (is_of_suit suit card) is
+
+-- ---- a card and those above it
+
+-- of a suit those that are not up to a card, and the card
+pub and_above : (suited low rest cards card other : ℕ) → card < 52 → has_card suited other ≡ is_of_suit (card_suit card) other → has_card low other ≡ nat_le other card → has_card rest other ≡ (has_card suited other && not (has_card low other)) → has_card cards other ≡ (has_card rest other || other == card)
+    → has_card cards other ≡ (same_suit card other && nat_le card other)
+and_above suited low rest cards card other inside suits lows rests is =
+    is ∙ ap (λ b. b || other == card) (above_it suited low rest card other inside suits lows rests) ∙ or_itself card other
+  where
+    or_itself : (c o : ℕ) → ((same_suit o c && nat_lt c o) || o == c) ≡ (same_suit c o && nat_le c o)
+    or_itself c o = grind (arith, nat_tests)

@@ -4,8 +4,9 @@ ghost use Rattle.bridge_cards.specs.Card.{same_suit};
 ghost use Rattle.bridge_cards.specs.CardSet.{has_card};
 ghost use Rattle.bridge_endings.specs.Agree.{AreAlike};
 
+use crate::closed::up_to;
 use crate::search::suit_of;
-use bridge_cards::trick::same_suit;
+use crate::trick::suit_cards;
 use bridge_cards::{Card, CardSet};
 
 /// Whether North and South reach what they need, and which cards counted.
@@ -55,14 +56,7 @@ pub fn without_cards(need: u8) -> Answer
 pub fn upwards(card: Card) -> CardSet
     ensures { (other : ℕ) → has_card result other ≡ (same_suit card other && nat_le card other) }
 {
-    let mut cards = CardSet::new();
-    for number in card.number()..Card::COUNT {
-        match Card::new(number) {
-            Some(next) if same_suit(card, next) => cards = cards.with(next),
-            _ => return cards,
-        }
-    }
-    cards
+    suit_cards(suit_of(card)).difference(up_to(card)).with(card)
 }
 
 /// Those of the cards that are still to be tried after one of them. Where it did not count, the others of its suit that did

@@ -80,6 +80,7 @@ impl Leads {
 
 impl Search {
     /// Which leads are good.
+    #[inline(never)]
     pub fn leads(&self, hands: &[CardSet; 4], left: CardSet, leader: Seat) -> Leads {
         let mut leads = Leads::none();
         let around = Around {
@@ -108,13 +109,15 @@ impl Search {
         leads
     }
 
-    /// How much worse it is to lead the suit where an opponent ruffs, of trumps, and of a long suit.
+    /// How much worse it is to lead the suit where an opponent ruffs or need not follow, of trumps, and of a long suit.
     fn less_for(&self, around: &Around, suit: Suit) -> i16 {
         let ruffed = self.ruffs(around.left, suit) || self.ruffs(around.right, suit);
         let ruffed: i16 = if ruffed { 480 } else { 0 };
         let trump: i16 = if self.trump == Some(suit) { 72 } else { 0 };
         let length = around.leader.of_suit(suit).len().min(13) as i16;
-        ruffed + trump + 21 * length
+        let left = less_for_free(around.left, suit);
+        let right = less_for_free(around.right, suit);
+        (ruffed + trump + 21 * length).saturating_add(left.saturating_add(right))
     }
 
     /// How good a low card of the suit is, by who has its highest card left, and whether the partner has the second.
@@ -144,5 +147,15 @@ impl Search {
             && self
                 .trump
                 .is_some_and(|trump| !hand.of_suit(trump).is_empty())
+    }
+}
+
+/// How much worse it is to lead the suit where an opponent has none of it: each card that it may throw away has to be tried,
+/// and the more it has, the more there are.
+fn less_for_free(opponent: CardSet, suit: Suit) -> i16 {
+    if opponent.of_suit(suit).is_empty() {
+        40 * opponent.len().min(13) as i16
+    } else {
+        0
     }
 }

@@ -3,71 +3,68 @@ ghost use Rattle.std.specs.Prelude.{◌≡◌, ◌↔◌, ℕ, IsTrue, IsNone, I
 ghost use Rattle.bridge_cards.specs.Card.{IsCard};
 ghost use Rattle.bridge_cards.specs.CardSet.{has_card};
 
+use crate::leads::Leads;
 use crate::search::{Search, held};
 use crate::trick::Trick;
 use bridge_cards::{Card, CardSet, SUIT_CARDS, Suit};
 
+/// In which order a hand tries its cards.
+#[derive(Clone, Copy)]
+pub struct Order {
+    /// The card to try first, if there is one.
+    first: CardSet,
+    /// How good each lead is, once that was asked.
+    leads: Option<Leads>,
+}
+
 impl Search {
-    /// The card to try first of those that may be played, by what the other hands have; none where there is no choice. To lead,
-    /// it is the card that was best before, if one was.
-    pub fn first_card(
+    /// The order of the cards that may be played, by what the other hands have. To lead, the card comes first that was best
+    /// before, if one was.
+    pub fn order(
         &self,
         hands: &[CardSet; 4],
         left: CardSet,
         cards: CardSet,
         trick: &Trick,
         best: Option<Card>,
-    ) -> CardSet {
-        if !is_choice(cards) {
-            return CardSet::new();
-        }
+    ) -> Order {
         let first = match trick.led() {
-            None => Some(self.lead(hands, left, cards, trick, &best)),
-            Some(led) => self.follow(hands, left, cards, trick, led),
+            None => best,
+            Some(led) if is_choice(cards) => self.follow(hands, left, cards, trick, led),
+            Some(_) => None,
         };
-        first.map_or(CardSet::new(), |card| CardSet::new().with(card))
+        Order {
+            first: first.map_or(CardSet::new(), |card| CardSet::new().with(card)),
+            leads: None,
+        }
     }
 
-    /// One of the cards, the one that the hand in turn tries next: the first card if it is among them, or else the best to lead,
-    /// or the lowest where it does not lead; `None` where there is none.
+    /// One of the cards, the one that the hand in turn tries next: the first of the order if it is among them, or else the best
+    /// to lead, or the lowest where it does not lead; `None` where there is none.
     pub fn next_card(
         &self,
         hands: &[CardSet; 4],
         left: CardSet,
         cards: CardSet,
         trick: &Trick,
-        first: CardSet,
+        order: &mut Order,
     ) -> Option<Card>
         ensures card { IfSome result (λ card. IsCard card × IsTrue (has_card cards card)) }
         ensures none { IsNone result ↔ (cards ≡ 0) }
     {
         let lowest = cards.lowest()?;
-        if let Some(first) = cards.intersection(first).lowest() {
+        if let Some(first) = cards.intersection(order.first).lowest() {
             return Some(first);
         }
         if trick.len() > 0 || cards.without(lowest).is_empty() {
             return Some(lowest);
         }
-        let leads = self.leads(hands, left, trick.turn());
+        let leads = match order.leads {
+            Some(leads) => leads,
+            None => self.leads(hands, left, trick.turn()),
+        };
+        order.leads = Some(leads);
         Some(leads.first(cards, lowest))
-    }
-
-    /// The card to lead: the one that was best before, if one was.
-    fn lead(
-        &self,
-        hands: &[CardSet; 4],
-        left: CardSet,
-        cards: CardSet,
-        trick: &Trick,
-        best: &Option<Card>,
-    ) -> Card {
-        match best {
-            Some(best) => *best,
-            None => match cards.lowest() {
-                Some(lowest) => self.leads(hands, left, trick.turn()).first(cards, lowest),
-                None => Card::default(),
-            },
-        }
     }
 
     /// The card to follow with: the lowest that wins so far and that the next hand cannot beat, otherwise the lowest that wins so

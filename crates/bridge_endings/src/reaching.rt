@@ -207,9 +207,9 @@ impl Search {
             return Some(without_cards(need));
         }
         let sought = is_sought(trick.turn());
-        let first = self.first_card(hands, left, legal, trick, best);
+        let mut order = self.order(hands, left, legal, trick, best);
         let (mut rest, mut counts) = (legal, CardSet::new());
-        while let Some(card) = self.next_card(hands, left, rest, trick, first) {
+        while let Some(card) = self.next_card(hands, left, rest, trick, &mut order) {
             let answer = self.reaches_with(table, hands, left, trick, card, tricks, need)?;
             if answer.yes == sought {
                 return Some(answer.by(card));
@@ -217,7 +217,7 @@ impl Search {
             rest = still_to_try(rest, card, answer.counts);
             counts = counts.union(answer.counts);
         }
-        let first = self.next_card(hands, left, legal, trick, first);
+        let first = self.next_card(hands, left, legal, trick, &mut order);
         Some(all_tried(sought, counts, first.unwrap_or_default()))
     }
 

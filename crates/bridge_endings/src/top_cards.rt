@@ -30,17 +30,19 @@ impl Search {
         let won = settling(leader, tricks, need);
         let own = held(hands, left, leader);
         let others = left.difference(own);
-        let counts = top_cards(own, others, won)?;
-        if !have_each(hands, left, tricks) {
-            return None;
-        }
         match self.trump_among(others) {
             Some(_) => None,
-            None => Some(Answer {
-                yes: is_sought(leader),
-                counts,
-                best: Card::default(),
-            }),
+            None => {
+                let counts = top_cards(own, others, won)?;
+                if !have_each(hands, left, tricks) {
+                    return None;
+                }
+                Some(Answer {
+                    yes: is_sought(leader),
+                    counts,
+                    best: Card::default(),
+                })
+            }
         }
     }
 }

@@ -215,8 +215,8 @@ fn cards_over(trump: Option<Suit>, card: Card) -> CardSet
 }
 
 /// All cards of the suit.
-fn suit_cards(suit: Suit) -> CardSet
-    ensures { (card : ℕ) → card < 52 → has_card result card ≡ is_of_suit suit card }
+pub fn suit_cards(suit: Suit) -> CardSet
+    ensures { (card : ℕ) → has_card result card ≡ is_of_suit suit card }
 {
     whole_deck().of_suit(suit)
 }

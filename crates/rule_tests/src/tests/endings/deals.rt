@@ -1,4 +1,4 @@
-//! A whole deal whose numbers come with libdds (the last of its examples), with spades and with hearts as trumps.
+//! The three deals of libdds' examples, whose numbers come with it.
 use super::deal_of;
 use crate::tests::expect_eq;
 use bridge_cards::{Seat, Suit};
@@ -6,21 +6,61 @@ use bridge_endings::DealSolver;
 use std::test::Fail;
 
 /// What is trumps in each row of numbers.
-const TRUMPS: [Option<Suit>; 2] = [Some(Suit::Spades), Some(Suit::Hearts)];
+const TRUMPS: [Option<Suit>; 5] = [
+    Some(Suit::Spades),
+    Some(Suit::Hearts),
+    Some(Suit::Diamonds),
+    Some(Suit::Clubs),
+    None,
+];
 
 pub const HANDS: &[u8] = b"N:73.QJT.AQ54.T752 QT6.876.KJ9.AQ84 5.A95432.7632.K6 AKJ9842.K.T8.J93";
 
-/// The tricks of North, East, South and West as declarers.
-const NUMBERS: [[u8; 4]; 2] = [[3, 10, 3, 10], [9, 4, 9, 4]];
+/// Each deal, and the tricks of North, East, South and West as declarers.
+const DEALS: [(&[u8], [[u8; 4]; 5]); 3] = [
+    (
+        b"N:QJ6.K652.J85.T98 873.J97.AT764.Q4 K5.T83.KQ9.A7652 AT942.AQ4.32.KJ3",
+        [
+            [5, 8, 5, 8],
+            [6, 6, 6, 6],
+            [5, 7, 5, 7],
+            [7, 5, 7, 5],
+            [6, 6, 6, 6],
+        ],
+    ),
+    (
+        b"E:QJT5432.T.6.QJ82 .J97543.K7532.94 87.A62.QJT4.AT75 AK96.KQ8.A98.K63",
+        [
+            [4, 9, 4, 9],
+            [10, 2, 10, 2],
+            [8, 3, 8, 3],
+            [6, 7, 6, 7],
+            [9, 3, 9, 3],
+        ],
+    ),
+    (
+        HANDS,
+        [
+            [3, 10, 3, 10],
+            [9, 4, 9, 4],
+            [8, 4, 8, 4],
+            [3, 9, 3, 9],
+            [4, 8, 4, 8],
+        ],
+    ),
+];
 
 // What was found with one suit as trumps stays in the table for the next.
 #[test]
 fn numbers_are_those_of_the_rows(rt: HostRuntime) -> Result<(), Fail> {
-    let mut solver = DealSolver::new(rt.alloc(), &deal_of(HANDS)?)?;
-    for row in 0..2_usize {
-        for seat in 0..4_usize {
-            let tricks = solver.tricks(TRUMPS[row], Seat::ALL[seat]);
-            expect_eq(&rt, tricks, NUMBERS[row][seat], (row, seat));
+    for deal in 0..3_usize {
+        let (hands, numbers) = DEALS[deal];
+        let mut solver = DealSolver::new(rt.alloc(), &deal_of(hands)?)?;
+        for row in 0..5_usize {
+            for seat in 0..4_usize {
+                let tricks = solver.tricks(TRUMPS[row], Seat::ALL[seat]);
+                expect_eq(&rt, tricks, numbers[row][seat], (deal, row, seat));
+            }
         }
     }
     Ok(())
@@ -38,6 +78,6 @@ fn some_cards_at_a_time_come_to_the_same(rt: HostRuntime) -> Result<(), Fail> {
             tricks = solver.tricks_within(TRUMPS[0], Seat::North, 5_000);
         }
     }
-    expect_eq(&rt, tricks, Some(NUMBERS[0][0]), "of all of them");
+    expect_eq(&rt, tricks, Some(DEALS[2].1[0][0]), "of all of them");
     Ok(())
 }
