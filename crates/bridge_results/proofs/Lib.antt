@@ -12,6 +12,7 @@ pub mod SuitLetters
 pub mod FourSuits
 pub mod PageParts
 pub mod HtmlParts
+pub mod OftenParts
 pub mod NoteParts
 pub mod CostsFound
 pub mod Shown

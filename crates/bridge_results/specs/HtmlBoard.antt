@@ -15,16 +15,16 @@ use Rattle.page_layout.specs.Linked.{linked_row}
 use Rattle.bridge_results.specs.declared.compare.Comparison.{Comparison}
 use Rattle.bridge_results.specs.declared.traveller.BoardLine.{BoardLine}
 use Rattle.bridge_results.specs.declared.html.columns.TheConstants.{SHARE_LINE_COLUMNS, SUM_LINE_COLUMNS}
-use Rattle.bridge_results.specs.Frequencies.{frequencies_of}
 use Rattle.bridge_results.specs.PlayCells.{declarer_cell, score_cell, line_score}
 use Rattle.bridge_results.specs.declared.analysis.PlayCosts.{PlayCosts}
 use Rattle.bridge_results.specs.MakeableText.{MakeableBoards, makeable_on}
 use Rattle.bridge_results.specs.Costs.{Analysis, costs_at}
-use Rattle.bridge_results.specs.BoardText.{board_words, deal_words, deal_text, side_gain, frequencies_text}
+use Rattle.bridge_results.specs.BoardText.{board_words, deal_words, deal_text, side_gain}
 use Rattle.bridge_results.specs.ShownPairs.{Names}
 use Rattle.bridge_results.specs.HtmlCells.{result_cell, perhaps_card, percent_cell}
 use Rattle.bridge_results.specs.HtmlLinks.{board_target, pair_target, play_target}
 use Rattle.bridge_results.specs.HtmlCourse.{course_on}
+use Rattle.bridge_results.specs.HtmlOften.{often_html}
 
 -- what was available on a board to each side
 abbrev pub available_on : SessionValue → ℕ → ℕ
@@ -92,8 +92,7 @@ html_traveller scoring available lines = html_lines_head scoring ++ (html_lines 
 
 -- the traveller and the frequencies of a board
 abbrev pub html_tables : Scoring → ℕ → List BoardLine → List ℕ
-html_tables scoring available lines =
-    html_traveller scoring available lines ++ frequencies_text Html scoring (frequencies_of lines)
+html_tables scoring available lines = html_traveller scoring available lines ++ often_html lines
 
 -- how the play of a line went
 abbrev pub line_course : Names → List PlayCosts → SessionValue → BoardLine → List ℕ

@@ -18,6 +18,7 @@ pub mod HtmlCells
 pub mod Costs
 pub mod HtmlCourse
 pub mod HtmlRecord
+pub mod HtmlOften
 pub mod HtmlBoard
 pub mod HtmlCard
 pub mod HtmlPage

@@ -11,6 +11,7 @@ mod front;
 mod laws;
 mod lines;
 mod links;
+mod often;
 mod page;
 mod ranking;
 mod recorded;

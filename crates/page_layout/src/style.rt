@@ -49,10 +49,16 @@ th { border-bottom: 2px solid var(--edge); font-size: .8125rem; color: var(--sec
 tr:nth-child(5) > td:nth-child(2):empty::before { content: "N"; }
 tr:nth-child(6) > td:nth-child(2):empty::before { content: "W E"; word-spacing: 1.5em; }
 tr:nth-child(8) > td:nth-child(2):empty::before { content: "S"; }
+.often { align-self: start; width: 100%; max-width: 24rem; }
+.often :is(th, td) { padding: .1rem .5rem; border: 0; color: inherit; font-size: 1rem; font-weight: normal; vertical-align: middle; }
+.often td:nth-child(2) { width: 100%; }
+.often svg { display: block; width: 100%; height: .4rem; border-radius: .2rem; }
+.often rect { fill: var(--soft); }
+.often rect + rect { fill: var(--link); }
 details { border-top: 1px solid var(--line); }
 summary { padding: .7rem 0; font-weight: bold; cursor: pointer; overflow-wrap: anywhere; }
 details > table { width: 100%; }
-:is(details > table, .makeable) caption { position: static; width: auto; height: auto; clip-path: none; padding: .3rem 0; text-align: left; font-weight: bold; }
+:is(details > table, .makeable, .often) caption { position: static; width: auto; height: auto; clip-path: none; padding: .3rem 0; text-align: left; font-weight: bold; }
 .auction { background: var(--panel); }
 .auction :is(th, td) { width: 25%; text-align: center; }
 .auction:target, .tricks td:last-child { font-weight: bold; }
@@ -83,7 +89,6 @@ body { grid-template-columns: repeat(2, minmax(0, 1fr)); }
 .traveller > :is(h3, p, .lines, details) { grid-column: 1 / -1; }
 .traveller:has(> .makeable) > h3 + p + table:not([class]) { grid-row: span 3; }
 .traveller > .makeable + p { grid-column: auto; }
-.traveller > .lines + table { align-self: center; }
 .sheet:has(> .card) { display: grid; grid-template-columns: repeat(2, minmax(0, 1fr)); gap: 0 1rem; align-items: start; }
 .sheet:has(> .card) > h2 { grid-column: 1 / -1; }
 .card :is(th, td):nth-child(2) { display: none; }
@@ -110,7 +115,8 @@ h2, h3 { break-after: avoid; }
 .traveller > h3 { margin: 0; font-size: 14pt; }
 .traveller > h3 + p + table:not([class]) { font-size: 14pt; }
 .traveller > .lines { font-size: 10pt; }
-.traveller > .lines + table { align-self: center; }
+.often :is(th, td) { font-size: 9pt; }
+.often rect + rect { fill: #0b57a4; }
 .sheet:has(> .card) { columns: 2; column-gap: 4mm; }
 .sheet:has(> .card) > h2 { column-span: all; }
 .card { margin: 0 0 3mm; padding: 2mm; border: 1px dashed #666; border-radius: 0; font-size: 8.5pt; }

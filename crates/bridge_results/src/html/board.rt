@@ -7,10 +7,10 @@ ghost use Rattle.bridge_results.specs.HtmlBoard.{available_on, board_start, html
 use crate::analysis::{Analysis, PlayCosts};
 use crate::html::lines::write_traveller;
 use crate::html::links::board_target;
+use crate::html::often::write_often;
 use crate::html::recorded::write_courses;
 use crate::makeable::Makeable;
 use crate::pages::board::{board_words, deal_words, write_deal as write_cards, write_end};
-use crate::pages::frequencies::write_frequencies_of;
 use crate::pages::makeable::makeable_on;
 use crate::results::Results;
 use crate::traveller::BoardLine;
@@ -82,7 +82,7 @@ fn write_tables<W: Write>(
     ensures { Written (stream W.contents writer.old writer.new) (html_tables scoring available lines.now) result }
 {
     write_traveller(scoring, available, lines, writer)?;
-    write_frequencies_of(Format::Html, scoring, lines, writer)
+    write_often(lines, writer)
 }
 
 /// Writes the tables of a board.
