@@ -6,7 +6,7 @@
 const CLOCK_SAID = [300, 60];
 const SECOND = 1000;
 
-const nothingStands = () => ({ notice: "", clock: null, calls: [], said: "", agreed: [], refusedBy: "", meets: null, now: 0, at: 0, ends: null, disk: "" });
+const nothingStands = () => ({ notice: "", clock: null, calls: [], said: "", agreed: [], refusedBy: "", meets: null, now: 0, at: 0, ends: null, disk: "", kept: [] });
 // Minutes before the end of the pages from which on they say so.
 const ENDS_SOON = 10;
 let desk = nothingStands();
@@ -29,6 +29,7 @@ const DESK_LINES = {
     if (ends !== undefined) found.ends = Number(ends) - found.now;
   },
   DISK: (found, line) => { found.disk = wordsFrom(line, 1); },
+  KEPT: (found, line) => { found.kept.push(line.split(" ").slice(1)); },
   NOTICE: (found, line) => { found.notice = wordsFrom(line, 1); },
   CLOCK: (found, line) => { found.clock = Number(wordsFrom(line, 1)) - found.now; },
   CALL: (found, line) => {

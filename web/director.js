@@ -786,19 +786,27 @@ async function showRulings() {
 
 // ---- the disks
 
-// The disks that the session is on: each with its name, and whether it is lost.
-function disksOf(text) {
-  const [, kept, lost] = /^(.*) alone, (.*) is lost$/.exec(text) || [];
-  if (lost !== undefined) return [{ name: kept, isLost: false }, { name: lost, isLost: true }];
-  return text.split(" and ").filter((name) => name !== "").map((name) => ({ name, isLost: false }));
+// The disks that the session is on: each with its name, whether it is lost, and its epoch and last action, where they are told.
+function disksOf(text, kept) {
+  const [, alone, lost] = /^(.*) alone, (.*) is lost$/.exec(text) || [];
+  const names = lost !== undefined ? [alone, lost] : text.split(" and ").filter((name) => name !== "");
+  return names.map((name, i) => ({ name, isLost: lost !== undefined && i === 1, kept: kept[i] }));
+}
+
+// How a disk stands.
+function standingOf(isLost, count) {
+  if (isLost) return TEXTS.diskIsLost;
+  return count > 1 ? TEXTS.diskIsLevel : TEXTS.diskInOrder;
 }
 
 // A tile for each, and what is to be done where one fails.
 function diskNodes(disks) {
   const isOneLost = disks.some((disk) => disk.isLost);
-  const tile = ({ name, isLost }, i) => make("li", { className: isLost ? "is-lost" : "" },
-    make("b", null, disks.length > 1 && !isOneLost ? TEXTS.diskOf(i) : TEXTS.oneDisk), make("span", { className: "second" }, name),
-    make("span", { className: "large" }, isLost ? TEXTS.diskIsLost : TEXTS.diskInOrder), make("span", { className: "second" }, isLost ? TEXTS.writtenNoMore : TEXTS.writtenFirst));
+  const level = isOneLost ? 1 : disks.length;
+  const tile = ({ name, isLost, kept }, i) => make("li", { className: isLost ? "is-lost" : "" },
+    make("b", null, level > 1 ? TEXTS.diskOf(i) : TEXTS.oneDisk), make("span", { className: "second" }, name),
+    make("span", { className: "large" }, standingOf(isLost, level)), ...(kept ? [make("span", null, TEXTS.keptOn(...kept, isLost))] : []),
+    make("span", { className: "second" }, isLost ? TEXTS.writtenNoMore : TEXTS.writtenFirst));
   return [make("ul", { className: "disks" }, ...disks.map(tile)), make("h3", null, TEXTS.ifDiskFails),
     make("ol", null, ...TEXTS.diskSteps(disks.length, isOneLost).map((step) => make("li", null, step)))];
 }
@@ -806,9 +814,10 @@ function diskNodes(disks) {
 function showDisks() {
   if (desk.ends === null) return;
   say("serving", TEXTS.serving(new Date(desk.at + SECOND * desk.ends).toLocaleTimeString([], { hour: "2-digit", minute: "2-digit" })));
-  if (desk.disk === at("disks").shows) return;
-  at("disks").shows = desk.disk;
-  at("disks").replaceChildren(...(desk.disk ? diskNodes(disksOf(desk.disk)) : []));
+  const told = [desk.disk, ...desk.kept].join("\n");
+  if (told === at("disks").shows) return;
+  at("disks").shows = told;
+  at("disks").replaceChildren(...(desk.disk ? diskNodes(disksOf(desk.disk, desk.kept)) : []));
 }
 
 async function turnOthers(word) {

@@ -359,8 +359,8 @@ async function awaitNews(text) {
   else lookAfter(LOOK);
 }
 
-// What an answer of the desk tells that stands, and is neither of the clock's hand nor of the disk.
-const standing = (reply) => reply.split("\n").slice(2, -2).filter((line) => !line.startsWith("DISK ")).map((line) => line + "\n").join("");
+// What an answer of the desk tells that stands, and is neither of the clock's hand nor of the disks.
+const standing = (reply) => reply.split("\n").slice(2, -2).filter((line) => !/^(DISK|KEPT) /.test(line)).map((line) => line + "\n").join("");
 
 async function lookOnce(asked) {
   turn += 1;

@@ -315,7 +315,10 @@ const TEXTS = {
   oneDisk: "Disk",
   diskOf: (index) => ["First disk", "Second disk"][index],
   diskInOrder: "In order",
+  diskIsLevel: "Level",
   diskIsLost: "Lost",
+  keptOn: (epoch, records, isLost) => "Epoch " + epoch + ", " + (isLost ? "lost at action " + records
+    : records === "0" ? "no action yet" : "last written: action " + records + " of 1024"),
   writtenFirst: "Each action is on it before it is answered.",
   writtenNoMore: "Nothing more is written to it.",
   ifDiskFails: "If a disk fails",

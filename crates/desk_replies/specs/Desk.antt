@@ -3,17 +3,23 @@ use Rattle.std.specs.Prelude.{ℕ, ◌-◌, ◌==◌, ◌&&◌, Bool, false, if�
 use Rattle.bridge_cards.specs.Seat.{same_seat}
 use Rattle.desk_replies.specs.declared.desk.Desk.{Desk}
 use Rattle.desk_replies.specs.declared.desk.RoundClock.{RoundClock}
+use Rattle.desk_replies.specs.declared.kept.KeptDisks.{KeptDisks}
 use Rattle.desk_replies.specs.declared.said.StandingClaim.{StandingClaim}
 use Rattle.desk_replies.specs.declared.said.Statement.{Statement}
 use Rattle.desk_replies.specs.declared.desk.TableCall.{TableCall}
 use Rattle.desk_replies.specs.declared.said.ClaimRefusal.{ClaimRefusal}
 use Rattle.desk_replies.specs.PlainText.{plain_text_of}
 
+-- nothing is known of what is kept on a disk
+abbrev pub no_disks : KeptDisks
+no_disks = record { first = None; second = None }
+
 -- nothing stands beside a session on this disk, which is shown up to that second
 abbrev pub new_desk : ℕ → List ℕ → Desk
 new_desk ends disk = record {
   ends = ends;
   disk = plain_text_of 1 200 disk;
+  kept = no_disks;
   notice = None;
   noticed = None;
   clock = None;
@@ -25,6 +31,10 @@ new_desk ends disk = record {
 -- the same beside a session on another disk
 abbrev pub with_disk : Desk → List ℕ → Desk
 with_disk desk disk = record desk { disk = plain_text_of 1 200 disk }
+
+-- the same beside one of which that is kept
+abbrev pub with_kept : Desk → KeptDisks → Desk
+with_kept desk kept = record desk { kept = kept }
 
 -- the call of a table, if there is one
 abbrev pub call_at : Desk → ℕ → Option TableCall
@@ -48,6 +58,7 @@ abbrev pub with_notice : Desk → ℕ → List ℕ → Desk
 with_notice desk at text = record {
   ends = desk.ends;
   disk = desk.disk;
+  kept = desk.kept;
   notice = Some text;
   noticed = Some at;
   clock = desk.clock;
@@ -61,6 +72,7 @@ abbrev pub without_notice : Desk → Desk
 without_notice desk = record {
   ends = desk.ends;
   disk = desk.disk;
+  kept = desk.kept;
   notice = None;
   noticed = desk.noticed;
   clock = desk.clock;
@@ -74,6 +86,7 @@ abbrev pub with_clock : Desk → Option RoundClock → Desk
 with_clock desk clock = record {
   ends = desk.ends;
   disk = desk.disk;
+  kept = desk.kept;
   notice = desk.notice;
   noticed = desk.noticed;
   clock = clock;
@@ -87,6 +100,7 @@ abbrev pub set_call : Desk → ℕ → Option TableCall → Desk
 set_call desk table call = record {
   ends = desk.ends;
   disk = desk.disk;
+  kept = desk.kept;
   notice = desk.notice;
   noticed = desk.noticed;
   clock = desk.clock;
@@ -119,6 +133,7 @@ abbrev pub set_statement : Desk → ℕ → Statement → Desk
 set_statement desk table statement = record {
   ends = desk.ends;
   disk = desk.disk;
+  kept = desk.kept;
   notice = desk.notice;
   noticed = desk.noticed;
   clock = desk.clock;
@@ -142,6 +157,7 @@ abbrev pub set_refusal : Desk → ℕ → ClaimRefusal → Desk
 set_refusal desk table refusal = record {
   ends = desk.ends;
   disk = desk.disk;
+  kept = desk.kept;
   notice = desk.notice;
   noticed = desk.noticed;
   clock = desk.clock;

@@ -20,6 +20,7 @@ use Rattle.desk_replies.specs.declared.asked.Asked.{Asked}
 use Rattle.desk_replies.specs.declared.claims.SeenClaim.{SeenClaim}
 use Rattle.desk_replies.specs.declared.desk.Desk.{Desk}
 use Rattle.desk_replies.specs.declared.desk.RoundClock.{RoundClock}
+use Rattle.desk_replies.specs.declared.kept.KeptOn.{KeptOn}
 use Rattle.desk_replies.specs.declared.said.StandingClaim.{StandingClaim}
 use Rattle.desk_replies.specs.declared.said.Statement.{Statement}
 use Rattle.desk_replies.specs.declared.desk.TableCall.{TableCall}
@@ -139,11 +140,20 @@ abbrev pub named_lines : Option (List ℕ) → List (List ℕ)
 named_lines None = []
 named_lines (Some name) = spaced_line (codes "DISK") (name ∷ []) ∷ []
 
+-- the epoch of a disk and the number of its records, where they are known
+abbrev pub kept_lines : Option KeptOn → List (List ℕ)
+kept_lines None = []
+kept_lines (Some kept) = spaced_line (codes "KEPT") (decimal kept.epoch ∷ decimal kept.records ∷ []) ∷ []
+
+-- the name of the disks, and what is kept on each
+abbrev pub all_disk_lines : Desk → List (List ℕ)
+all_disk_lines desk = named_lines desk.disk ++ (kept_lines desk.kept.first ++ kept_lines desk.kept.second)
+
 -- which the director alone is told
 abbrev pub disk_lines : SessionValue → Desk → ℕ → List (List ℕ)
-disk_lines s desk key = if key == s.configuration.director then named_lines desk.disk else []
+disk_lines s desk key = if key == s.configuration.director then all_disk_lines desk else []
 
--- the second, the disk, and the standing lines
+-- the second, the disks, and the standing lines
 abbrev pub standing_text : SessionValue → Desk → ℕ → ℕ → List ℕ
 standing_text s desk at key = listed_text (now_line at desk.ends ∷ (disk_lines s desk key ++ standing_lines s desk key))
 

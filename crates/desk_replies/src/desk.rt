@@ -2,8 +2,9 @@
 ghost use Rattle.std.specs.Prelude.{◌≡◌, ◌<◌, ◌-◌, length, Some, None};
 ghost use Rattle.std.specs.Option.{option_copied};
 ghost use Rattle.session_rules.specs.Numbers.{IsTableNumber};
-ghost use Rattle.desk_replies.specs.Desk.{with_disk, new_desk, call_at, statement_at, is_soon, with_notice, without_notice, with_clock, set_call, with_call, is_said_with, with_statement, refusal_at, is_refusal_of, with_refusal};
+ghost use Rattle.desk_replies.specs.Desk.{with_disk, with_kept, new_desk, call_at, statement_at, is_soon, with_notice, without_notice, with_clock, set_call, with_call, is_said_with, with_statement, refusal_at, is_refusal_of, with_refusal};
 
+use crate::kept::KeptDisks;
 use crate::plain_text::{MOST_CHARACTERS, PlainText};
 use crate::said::{ClaimRefusal, StandingClaim, Statement};
 use session_rules::Player;
@@ -40,6 +41,8 @@ pub struct Desk {
     pub(crate) ends: u32,
     /// The name of the session's disk, where it is 1 to 200 characters that show themselves.
     pub(crate) disk: Option<PlainText>,
+    /// What is kept on each disk, where that is known.
+    pub(crate) kept: KeptDisks,
     /// The director's notice.
     pub(crate) notice: Option<PlainText>,
     /// When a notice was put up last, in seconds since the server began.
@@ -71,6 +74,10 @@ impl Desk {
         Desk {
             ends,
             disk: PlainText::read(1, MOST_CHARACTERS, disk.as_bytes()),
+            kept: KeptDisks {
+                first: None,
+                second: None,
+            },
             notice: None,
             noticed: None,
             clock: None,
@@ -91,6 +98,13 @@ impl Desk {
         ensures { self.new ≡ with_disk self.old disk.now }
     {
         self.disk = PlainText::read(1, MOST_CHARACTERS, disk.as_bytes());
+    }
+
+    /// From now on that is kept on the session's disks.
+    pub fn note_kept(&mut self, kept: KeptDisks)
+        ensures { self.new ≡ with_kept self.old kept }
+    {
+        self.kept = kept;
     }
 
     /// The calls of all tables, by the tables' numbers.

@@ -4,9 +4,10 @@ ghost use Rattle.std.specs.Option.{option_copied};
 ghost use Rattle.arrayvec.specs.ArrayString.{array_string_len};
 ghost use Rattle.bridge_config.specs.ConfigValue.{pair_of};
 ghost use Rattle.line_text.specs.Lines.{lines_text};
-ghost use Rattle.desk_replies.specs.Told.{notice_lines, end_of_clock, clock_lines, call_line, call_lines, all_call_lines, concerns, now_line, named_lines, disk_lines, standing_lines, standing_text};
+ghost use Rattle.desk_replies.specs.Told.{notice_lines, end_of_clock, clock_lines, call_line, call_lines, all_call_lines, concerns, now_line, named_lines, kept_lines, all_disk_lines, disk_lines, standing_lines, standing_text};
 
 use crate::desk::{Desk, RoundClock, TableCall};
+use crate::kept::KeptOn;
 use crate::own_table::push_own;
 use crate::plain_text::PlainText;
 use crate::standing::{
@@ -16,6 +17,7 @@ use crate::standing::{
 use crate::text::{push_number as add_number, push_str, push_word as add_word};
 use bridge_config::{Key, PairFields, player_name};
 use bridge_session::Session;
+use itoa::Buffer;
 use line_text::number_text;
 use std::alloc::AllocError;
 
@@ -156,12 +158,36 @@ fn push_named(text: &mut Vec<u8>, disk: &Option<PlainText>) -> Result<(), AllocE
     }
 }
 
-/// Adds the line of the disk, where the key is the director's.
+/// Adds the line of what a disk has, where that is known.
+fn push_kept(text: &mut Vec<u8>, kept: Option<KeptOn>) -> Result<(), AllocError>
+    ensures { OnOk result (text.new.items ≡ text.old.items ++ lines_text (kept_lines kept)) }
+{
+    match kept {
+        Some(kept) => {
+            push_str(text, "KEPT")?;
+            add_word(text, Buffer::new().format(kept.epoch))?;
+            add_number(text, kept.records)?;
+            push_str(text, "\n")
+        }
+        None => Ok(()),
+    }
+}
+
+/// Adds the lines of the disks.
+fn push_disks(text: &mut Vec<u8>, desk: &Desk) -> Result<(), AllocError>
+    ensures { OnOk result (text.new.items ≡ text.old.items ++ lines_text (all_disk_lines desk.now)) }
+{
+    push_named(text, &desk.disk)?;
+    push_kept(text, desk.kept.first)?;
+    push_kept(text, desk.kept.second)
+}
+
+/// Adds the lines of the disks, where the key is the director's.
 fn push_disk(text: &mut Vec<u8>, session: &Session, desk: &Desk, key: Key) -> Result<(), AllocError>
     ensures { OnOk result (text.new.items ≡ text.old.items ++ lines_text (disk_lines session.now desk.now key.0)) }
 {
     if key == session.config().fields().director {
-        push_named(text, &desk.disk)
+        push_disks(text, desk)
     } else {
         Ok(())
     }

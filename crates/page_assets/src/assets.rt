@@ -1360,7 +1360,10 @@ const TEXTS = {
   oneDisk: "Disk",
   diskOf: (index) => ["First disk", "Second disk"][index],
   diskInOrder: "In order",
+  diskIsLevel: "Level",
   diskIsLost: "Lost",
+  keptOn: (epoch, records, isLost) => "Epoch " + epoch + ", " + (isLost ? "lost at action " + records
+    : records === "0" ? "no action yet" : "last written: action " + records + " of 1024"),
   writtenFirst: "Each action is on it before it is answered.",
   writtenNoMore: "Nothing more is written to it.",
   ifDiskFails: "If a disk fails",
@@ -1904,8 +1907,8 @@ async function awaitNews(text) {
   else lookAfter(LOOK);
 }
 
-// What an answer of the desk tells that stands, and is neither of the clock's hand nor of the disk.
-const standing = (reply) => reply.split("\n").slice(2, -2).filter((line) => !line.startsWith("DISK ")).map((line) => line + "\n").join("");
+// What an answer of the desk tells that stands, and is neither of the clock's hand nor of the disks.
+const standing = (reply) => reply.split("\n").slice(2, -2).filter((line) => !/^(DISK|KEPT) /.test(line)).map((line) => line + "\n").join("");
 
 async function lookOnce(asked) {
   turn += 1;
@@ -3506,7 +3509,7 @@ pub const DESK_SCRIPT: &str = r##""use strict";
 const CLOCK_SAID = [300, 60];
 const SECOND = 1000;
 
-const nothingStands = () => ({ notice: "", clock: null, calls: [], said: "", agreed: [], refusedBy: "", meets: null, now: 0, at: 0, ends: null, disk: "" });
+const nothingStands = () => ({ notice: "", clock: null, calls: [], said: "", agreed: [], refusedBy: "", meets: null, now: 0, at: 0, ends: null, disk: "", kept: [] });
 // Minutes before the end of the pages from which on they say so.
 const ENDS_SOON = 10;
 let desk = nothingStands();
@@ -3529,6 +3532,7 @@ const DESK_LINES = {
     if (ends !== undefined) found.ends = Number(ends) - found.now;
   },
   DISK: (found, line) => { found.disk = wordsFrom(line, 1); },
+  KEPT: (found, line) => { found.kept.push(line.split(" ").slice(1)); },
   NOTICE: (found, line) => { found.notice = wordsFrom(line, 1); },
   CLOCK: (found, line) => { found.clock = Number(wordsFrom(line, 1)) - found.now; },
   CALL: (found, line) => {
@@ -4492,19 +4496,27 @@ async function showRulings() {
 
 // ---- the disks
 
-// The disks that the session is on: each with its name, and whether it is lost.
-function disksOf(text) {
-  const [, kept, lost] = /^(.*) alone, (.*) is lost$/.exec(text) || [];
-  if (lost !== undefined) return [{ name: kept, isLost: false }, { name: lost, isLost: true }];
-  return text.split(" and ").filter((name) => name !== "").map((name) => ({ name, isLost: false }));
+// The disks that the session is on: each with its name, whether it is lost, and its epoch and last action, where they are told.
+function disksOf(text, kept) {
+  const [, alone, lost] = /^(.*) alone, (.*) is lost$/.exec(text) || [];
+  const names = lost !== undefined ? [alone, lost] : text.split(" and ").filter((name) => name !== "");
+  return names.map((name, i) => ({ name, isLost: lost !== undefined && i === 1, kept: kept[i] }));
+}
+
+// How a disk stands.
+function standingOf(isLost, count) {
+  if (isLost) return TEXTS.diskIsLost;
+  return count > 1 ? TEXTS.diskIsLevel : TEXTS.diskInOrder;
 }
 
 // A tile for each, and what is to be done where one fails.
 function diskNodes(disks) {
   const isOneLost = disks.some((disk) => disk.isLost);
-  const tile = ({ name, isLost }, i) => make("li", { className: isLost ? "is-lost" : "" },
-    make("b", null, disks.length > 1 && !isOneLost ? TEXTS.diskOf(i) : TEXTS.oneDisk), make("span", { className: "second" }, name),
-    make("span", { className: "large" }, isLost ? TEXTS.diskIsLost : TEXTS.diskInOrder), make("span", { className: "second" }, isLost ? TEXTS.writtenNoMore : TEXTS.writtenFirst));
+  const level = isOneLost ? 1 : disks.length;
+  const tile = ({ name, isLost, kept }, i) => make("li", { className: isLost ? "is-lost" : "" },
+    make("b", null, level > 1 ? TEXTS.diskOf(i) : TEXTS.oneDisk), make("span", { className: "second" }, name),
+    make("span", { className: "large" }, standingOf(isLost, level)), ...(kept ? [make("span", null, TEXTS.keptOn(...kept, isLost))] : []),
+    make("span", { className: "second" }, isLost ? TEXTS.writtenNoMore : TEXTS.writtenFirst));
   return [make("ul", { className: "disks" }, ...disks.map(tile)), make("h3", null, TEXTS.ifDiskFails),
     make("ol", null, ...TEXTS.diskSteps(disks.length, isOneLost).map((step) => make("li", null, step)))];
 }
@@ -4512,9 +4524,10 @@ function diskNodes(disks) {
 function showDisks() {
   if (desk.ends === null) return;
   say("serving", TEXTS.serving(new Date(desk.at + SECOND * desk.ends).toLocaleTimeString([], { hour: "2-digit", minute: "2-digit" })));
-  if (desk.disk === at("disks").shows) return;
-  at("disks").shows = desk.disk;
-  at("disks").replaceChildren(...(desk.disk ? diskNodes(disksOf(desk.disk)) : []));
+  const told = [desk.disk, ...desk.kept].join("\n");
+  if (told === at("disks").shows) return;
+  at("disks").shows = told;
+  at("disks").replaceChildren(...(desk.disk ? diskNodes(disksOf(desk.disk, desk.kept)) : []));
 }
 
 async function turnOthers(word) {

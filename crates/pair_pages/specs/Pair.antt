@@ -11,11 +11,13 @@ use Rattle.session_pair.specs.Telling.{of_side, shown_of}
 use Rattle.session_store.specs.Pair.{standing_of}
 use Rattle.session_store.specs.declared.standing.PairStanding.{PairStanding}
 use Rattle.session_store.specs.declared.standing.PairStanding.TheVariants.{FirstLost, SecondLost}
-use Rattle.desk_replies.specs.Desk.{with_disk}
+use Rattle.desk_replies.specs.Desk.{with_disk, with_kept}
 use Rattle.desk_replies.specs.declared.desk.Desk.{Desk}
+use Rattle.desk_replies.specs.declared.kept.KeptDisks.{KeptDisks}
+use Rattle.desk_replies.specs.declared.kept.KeptOn.{KeptOn}
 use Rattle.pair_pages.specs.declared.disk_names.DiskNames.{DiskNames}
 use Rattle.table_server.specs.declared.line_set.LineSet.{LineSet}
-use Rattle.table_pages.specs.Answered.{AnswersLines, CountsKeys, is_settled}
+use Rattle.table_pages.specs.Answered.{AnswersLines, CountsKeys, is_settled, kept_on}
 use Rattle.table_pages.specs.declared.line_server.Replies.{Replies}
 
 -- two stores of a session, and whether nothing more may be told of it
@@ -53,9 +55,27 @@ lost_line names (Some FirstLost) = lost_of names.disk_first
 lost_line names (Some SecondLost) = lost_of (not names.disk_first)
 lost_line names _ = []
 
--- what stands beside the session, where the disks have that name
+-- the first disk of a pair is named before the second: where that one is lost; or where both are kept and it is the disk, and the
+-- other its copy
+abbrev pub is_named_first : DiskNames → Option PairStanding → Bool
+is_named_first names (Some FirstLost) = false
+is_named_first names (Some SecondLost) = true
+is_named_first names _ = names.disk_first
+
+-- what is kept on the disks of a pair, in the order in which they are named
+abbrev pub named_in_order : Bool → KeptOn → KeptOn → KeptDisks
+named_in_order true first second = record { first = Some first; second = Some second }
+named_in_order false first second = record { first = Some second; second = Some first }
+
+-- what is kept on the disks of two stores
+abbrev pub kept_of : {D E : Type 0} → DiskNames → StoreValue D SessionValue Action → StoreValue E SessionValue Action → KeptDisks
+kept_of names first second =
+    named_in_order (is_named_first names (standing_of first.failed second.failed)) (kept_on first) (kept_on second)
+
+-- what stands beside the session, where the disks have that name and that is kept on them
 abbrev pub desk_of : {D E : Type 0} → DiskNames → StoreValue D SessionValue Action → StoreValue E SessionValue Action → Desk → Desk
-desk_of names first second desk = with_disk desk (disk_name names (standing_of first.failed second.failed))
+desk_of names first second desk =
+    with_kept (with_disk desk (disk_name names (standing_of first.failed second.failed))) (kept_of names first second)
 
 -- nothing is pending in either store that works
 abbrev pub are_settled : {D E : Type 0} → PairValue D E → Bool

@@ -1,6 +1,6 @@
 //! What the director is told of two disks.
 ghost use Rattle.std.specs.Prelude.{◌≡◌};
-ghost use Rattle.pair_pages.specs.Pair.{disk_name, lost_line};
+ghost use Rattle.pair_pages.specs.Pair.{disk_name, is_named_first, lost_line};
 
 use session_store::PairStanding;
 
@@ -32,6 +32,17 @@ impl DiskNames {
             Some(PairStanding::FirstLost) => self.first_lost.as_str(),
             Some(PairStanding::SecondLost) => self.second_lost.as_str(),
             _ => self.level.as_str(),
+        }
+    }
+
+    /// Whether the first is named before the second where the disks stand so.
+    pub fn is_named_first(&self, standing: Option<PairStanding>) -> bool
+        ensures { result ≡ is_named_first self.now standing }
+    {
+        match standing {
+            Some(PairStanding::FirstLost) => false,
+            Some(PairStanding::SecondLost) => true,
+            _ => self.disk_first,
         }
     }
 

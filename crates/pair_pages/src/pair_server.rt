@@ -12,14 +12,14 @@ ghost use Rattle.board_replies.specs.Told.{boards_text, opened_by};
 ghost use Rattle.desk_replies.specs.Asked.{has_wrong_key as asks_desk_wrongly};
 ghost use Rattle.desk_replies.specs.Told.{desk_text, desk_after};
 ghost use Rattle.table_pages.specs.Waits.{wait_reply, IsToldStill};
-ghost use Rattle.pair_pages.specs.Pair.{pair_of, told_text, are_settled, desk_of, AnswersPair, CountsInPair};
+ghost use Rattle.pair_pages.specs.Pair.{pair_of, told_text, are_settled, desk_of, kept_of, AnswersPair, CountsInPair};
 
 use crate::answering::serve_twice;
 use crate::disk_names::DiskNames;
 use board_replies::{opened_by, told_boards};
 use bridge_endings::Cache;
 use bridge_session::Session;
-use desk_replies::{Desk, answer_desk};
+use desk_replies::{Desk, KeptDisks, answer_desk};
 use line_replies::ShortReply;
 use page_replies::{is_wrong_key, push_place, push_tables, told_results};
 use sector_disk::SectorDisk;
@@ -27,7 +27,7 @@ use session_pair::shown_state;
 use session_store::{PairStanding, Store, pair_standing};
 use std::alloc::Global;
 use std::io::{Eprint, Stderr};
-use table_pages::{LineServer, Replies};
+use table_pages::{LineServer, Replies, kept_on};
 use table_server::{LineSet, ReplyText};
 
 /// Two stores of one session, each on a disk of its own.
@@ -135,6 +135,21 @@ impl<A: SectorDisk + Drop, B: SectorDisk + Drop> PairServer<Store<A, Session>, S
         self.first.is_still(desk, body)
     }
 
+    /// What is kept on the disks, in the order in which the director is told their names.
+    fn kept(&self) -> KeptDisks
+        ensures { result ≡ kept_of self.now.names self.now.first self.now.second }
+    {
+        let (first, second) = (Some(kept_on(&self.first)), Some(kept_on(&self.second)));
+        if self.names.is_named_first(self.standing()) {
+            KeptDisks { first, second }
+        } else {
+            KeptDisks {
+                first: second,
+                second: first,
+            }
+        }
+    }
+
     /// Gives both stores back.
     pub fn into_stores(self) -> (Store<A, Session>, Store<B, Session>)
         ensures first { result.0 ≡ self.first }
@@ -220,6 +235,7 @@ impl<A: SectorDisk + Drop, B: SectorDisk + Drop> LineServer
 
     fn desk(&self, desk: &mut Desk, alloc: Global, at: u32, body: &[u8]) -> Option<Vec<u8>> {
         desk.name_disk(self.names.told(self.standing()));
+        desk.note_kept(self.kept());
         answer_desk(self.session(), desk, alloc, at, body)
     }
 

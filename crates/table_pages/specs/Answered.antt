@@ -12,6 +12,8 @@ use Rattle.page_replies.specs.WrongKey.{is_wrong_key}
 use Rattle.board_replies.specs.Asked.{has_wrong_key}
 use Rattle.board_replies.specs.Told.{boards_text, opened_by}
 use Rattle.desk_replies.specs.declared.desk.Desk.{Desk}
+use Rattle.desk_replies.specs.declared.kept.KeptOn.{KeptOn}
+use Rattle.desk_replies.specs.Desk.{with_kept}
 use Rattle.desk_replies.specs.Asked.{has_wrong_key as asks_wrongly}
 use Rattle.desk_replies.specs.Told.{desk_text, desk_after}
 use Rattle.line_replies.specs.declared.short_reply.ShortReply.{ShortReply}
@@ -64,13 +66,21 @@ wrong_key_at_boards store bytes = has_wrong_key store.state.configuration bytes
 abbrev pub wrong_key_at_desk : {D : Type 0} → StoreValue D SessionValue Action → List ℕ → Bool
 wrong_key_at_desk store bytes = asks_wrongly store.state.configuration bytes
 
+-- what is kept on the disk of a store
+abbrev pub kept_on : {D : Type 0} → StoreValue D SessionValue Action → KeptOn
+kept_on store = record { epoch = store.epoch; records = store.records }
+
+-- what stands beside the session of a store
+abbrev pub desk_beside : {D : Type 0} → StoreValue D SessionValue Action → Desk → Desk
+desk_beside store desk = with_kept desk (record { first = Some (kept_on store); second = None })
+
 -- over the session of a store: what is told of the desk where these bytes are posted at a second
 abbrev pub desks_told : {D : Type 0} → StoreValue D SessionValue Action → Desk → ℕ → List ℕ → List ℕ
-desks_told store desk at body = desk_text store.state desk at body
+desks_told store desk at body = desk_text store.state (desk_beside store desk) at body
 
 -- and what stands on it from then on
 abbrev pub stands_told : {D : Type 0} → StoreValue D SessionValue Action → Desk → ℕ → List ℕ → Desk
-stands_told store desk at body = desk_after store.state desk at body
+stands_told store desk at body = desk_after store.state (desk_beside store desk) at body
 
 -- over the session of a store: how a request to wait is answered
 abbrev pub wait_told : {D : Type 0} → StoreValue D SessionValue Action → List ℕ → ShortReply

@@ -1,7 +1,7 @@
 //! Lines that came in one request, answered over a store.
 ghost use Rattle.std.specs.Prelude.{◌≡◌, ◌<◌, [], false, length, option_map, IfSome};
 ghost use Rattle.table_server.specs.Faulted.{FailsWithDisk};
-ghost use Rattle.table_pages.specs.Answered.{AnswersBody, AnswersLines, CountsKeys, is_settled, wrong_key_told, wrong_key_at_boards, wrong_key_at_desk, place_told, tables_told, boards_told, opens_told, desks_told, stands_told, wait_told, IsStill};
+ghost use Rattle.table_pages.specs.Answered.{AnswersBody, AnswersLines, CountsKeys, is_settled, wrong_key_told, wrong_key_at_boards, wrong_key_at_desk, place_told, tables_told, boards_told, opens_told, kept_on, desks_told, stands_told, wait_told, IsStill};
 ghost use Rattle.page_replies.specs.ToldResults.{results_told};
 
 use crate::line_server::{LineServer, Replies};
@@ -9,7 +9,7 @@ use crate::waiting;
 use board_replies::{opened_by, told_boards};
 use bridge_endings::Cache;
 use bridge_session::Session;
-use desk_replies::{Desk, answer_desk};
+use desk_replies::{Desk, KeptDisks, KeptOn, answer_desk};
 use line_replies::ShortReply;
 use page_replies::{is_wrong_key, push_place, push_tables, told_results};
 use sector_disk::SectorDisk;
@@ -42,6 +42,16 @@ pub fn answer_lines<D: SectorDisk + Drop>(
             wrong_keys: lines.wrong_keys,
         }),
         Err(_) => None,
+    }
+}
+
+/// What is kept on the disk of a store.
+pub fn kept_on<D: SectorDisk + Drop>(store: &Store<D, Session>) -> KeptOn
+    ensures { result ≡ kept_on store.now }
+{
+    KeptOn {
+        epoch: store.epoch(),
+        records: store.records(),
     }
 }
 
@@ -117,6 +127,10 @@ impl<D: SectorDisk + Drop> LineServer for Store<D, Session> {
     }
 
     fn desk(&self, desk: &mut Desk, alloc: Global, at: u32, body: &[u8]) -> Option<Vec<u8>> {
+        desk.note_kept(KeptDisks {
+            first: Some(kept_on(self)),
+            second: None,
+        });
         answer_desk(self.state(), desk, alloc, at, body)
     }
 

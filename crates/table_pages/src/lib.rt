@@ -19,7 +19,7 @@ mod seconds;
 mod showing;
 mod waiting;
 
-pub use answering::answer_lines;
+pub use answering::{answer_lines, kept_on};
 pub use host_names::HostNames;
 pub use laws::waits_tell_of_their_own_table;
 pub use line_server::{LineServer, Replies};

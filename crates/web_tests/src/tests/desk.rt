@@ -22,7 +22,12 @@ impl Seconds for SetClock<'_> {
 /// The second, the path, the body, and what the response ends with.
 const ROWS: &[(u32, &str, &str, &str)] = &[
     (0, "/desk", "11", "OK\nNOW 0 600\n.\n"),
-    (0, "/desk", "100", "OK\nNOW 0 600\nDISK club.disk\n.\n"),
+    (
+        0,
+        "/desk",
+        "100",
+        "OK\nNOW 0 600\nDISK club.disk\nKEPT 2 0\n.\n",
+    ),
     (0, "/desk", "12345", "ERR 1 NoKey\n"),
     (0, "/desk", "x", "ERR 30 BadLine\n"),
     (
@@ -37,7 +42,7 @@ const ROWS: &[(u32, &str, &str, &str)] = &[
         0,
         "/desk",
         "100 NOTICE Coffee is ready",
-        "OK\nNOW 0 600\nDISK club.disk\nNOTICE Coffee is ready\n.\n",
+        "OK\nNOW 0 600\nDISK club.disk\nKEPT 2 0\nNOTICE Coffee is ready\n.\n",
     ),
     (
         0,
@@ -50,7 +55,7 @@ const ROWS: &[(u32, &str, &str, &str)] = &[
         1,
         "/desk",
         "100 NOTICE Tee f\u{fc}r alle",
-        "OK\nNOW 1 600\nDISK club.disk\nNOTICE Tee f\u{fc}r alle\n.\n",
+        "OK\nNOW 1 600\nDISK club.disk\nKEPT 2 0\nNOTICE Tee f\u{fc}r alle\n.\n",
     ),
     (2, "/desk", "100 NOTICE a\u{202e}b", "ERR 30 BadLine\n"),
     (2, "/desk", "100 NOTICE a\nb", "ERR 30 BadLine\n"),
@@ -58,7 +63,7 @@ const ROWS: &[(u32, &str, &str, &str)] = &[
         2,
         "/desk",
         "100 NOTICE",
-        "OK\nNOW 2 600\nDISK club.disk\n.\n",
+        "OK\nNOW 2 600\nDISK club.disk\nKEPT 2 0\n.\n",
     ),
     (3, "/desk", "100 CLOCK 0", "ERR 30 BadLine\n"),
     (3, "/desk", "100 CLOCK 241", "ERR 30 BadLine\n"),
@@ -66,7 +71,7 @@ const ROWS: &[(u32, &str, &str, &str)] = &[
         3,
         "/desk",
         "100 CLOCK 7",
-        "OK\nNOW 3 600\nDISK club.disk\nCLOCK 423\n.\n",
+        "OK\nNOW 3 600\nDISK club.disk\nKEPT 2 0\nCLOCK 423\n.\n",
     ),
     (63, "/desk", "31", "OK\nNOW 63 600\nCLOCK 423\n.\n"),
     (500, "/desk", "31", "OK\nNOW 500 600\nCLOCK 423\n.\n"),
@@ -74,7 +79,7 @@ const ROWS: &[(u32, &str, &str, &str)] = &[
         500,
         "/desk",
         "100 CLOCK",
-        "OK\nNOW 500 600\nDISK club.disk\n.\n",
+        "OK\nNOW 500 600\nDISK club.disk\nKEPT 2 0\n.\n",
     ),
     (500, "/desk", "100 CALL", "ERR 2 NotAllowed\n"),
     (
@@ -100,20 +105,20 @@ const ROWS: &[(u32, &str, &str, &str)] = &[
         511,
         "/desk",
         "100",
-        "OK\nNOW 511 600\nDISK club.disk\nCALL 1 500 1 Ann Lead out of turn\nCALL 2 510 2 Dan \n.\n",
+        "OK\nNOW 511 600\nDISK club.disk\nKEPT 2 0\nCALL 1 500 1 Ann Lead out of turn\nCALL 2 510 2 Dan \n.\n",
     ),
     (511, "/desk", "11 ANSWERED 1", "ERR 2 NotAllowed\n"),
     (
         511,
         "/desk",
         "100 ANSWERED 1",
-        "OK\nNOW 511 600\nDISK club.disk\nCALL 2 510 2 Dan \n.\n",
+        "OK\nNOW 511 600\nDISK club.disk\nKEPT 2 0\nCALL 2 510 2 Dan \n.\n",
     ),
     (
         511,
         "/desk",
         "100 ANSWERED 2",
-        "OK\nNOW 511 600\nDISK club.disk\n.\n",
+        "OK\nNOW 511 600\nDISK club.disk\nKEPT 2 0\n.\n",
     ),
     (511, "/desk", "11 STATEMENT All high", "ERR 8 NotDealt\n"),
     (511, "/lines", SEVEN_TRICKS, "OK\n"),
@@ -141,6 +146,12 @@ const ROWS: &[(u32, &str, &str, &str)] = &[
     (511, "/desk", "21", "OK\nNOW 511 600\n.\n"),
     (511, "/lines", "REFUSE 31 1 1\n", "OK\n"),
     (511, "/desk", "32", "OK\nNOW 511 600\n.\n"),
+    (
+        511,
+        "/desk",
+        "100",
+        "OK\nNOW 511 600\nDISK club.disk\nKEPT 2 39\n.\n",
+    ),
 ];
 
 // What stands beside the session is told to those whom it concerns, at the second of the request.
