@@ -325,6 +325,7 @@ function overNodes(place, board, next) {
 
 // The score card of what this pair has played; a board opens from it.
 function cardTable(place, boards) {
+  const hasWorth = boards.some((board) => board.worth && board.worth !== "-");
   const rows = boards.map((board) => {
     const others = SEATS.filter((seat) => (seat === "N" || seat === "S") !== (board.side === "NS"));
     const opens = button(String(board.number), TEXTS.openBoard(board.number),
@@ -333,9 +334,10 @@ function cardTable(place, boards) {
     return make("tr", null, make("td", null, opens), make("td", { className: "who" },
       ...nameNodes(board.names[others[0]]), " \u2013 ", ...nameNodes(board.names[others[1]])), make("td", null, ...resultNodes(board.result)),
       make("td", null, ...(lead ? [cardInText(lead.card, cardName(lead.card))] : [])),
-      numberCell(tricksText(board.result)), numberCell(scoreText(board)), make("td", { className: "number" }, ...worthNodes(board.worth)));
+      numberCell(tricksText(board.result)), numberCell(scoreText(board)), ...(hasWorth ? [make("td", { className: "number" }, ...worthNodes(board.worth))] : []));
   });
-  return make("table", { id: "card", className: "list", aria_label: TEXTS.scoreCard }, listHeads(TEXTS.cardHeads, 3), make("tbody", null, ...rows));
+  return make("table", { id: "card", className: "list", aria_label: TEXTS.scoreCard },
+    listHeads(hasWorth ? TEXTS.cardHeads : TEXTS.cardHeads.slice(0, -1), 3), make("tbody", null, ...rows));
 }
 
 // The boards of this round: what came of those that are over, and which is at play.

@@ -17,7 +17,9 @@ let deskShown = "";
 let nextRound = null;
 let reason = null;
 
-const timeText = (time) => new Date(time).toLocaleTimeString([], { hour: "2-digit", minute: "2-digit" });
+const timeText = (time) => new Date(time).toLocaleTimeString(TEXTS.locale, { hour: "2-digit", minute: "2-digit" });
+// A reason of the page's own goes on in the sentence.
+const reasonText = (words) => (TEXTS.reasons.includes(words) && !words.startsWith("I ") ? words[0].toLowerCase() + words.slice(1) : words);
 
 // A line from so many words on.
 const wordsFrom = (line, count) => line.split(" ").slice(count).join(" ");
@@ -119,7 +121,7 @@ function showClock() {
 const whoCalls = ({ pair, name }) => TEXTS.ofPair(shownName(pair, name), pair);
 
 function callNodesOf(call) {
-  if (!isDirector()) return [make("p", { className: "note called" }, make("span", null, make("b", null, TEXTS.directorCalled(call.time)), " ", (call.text || TEXTS.nothingSaid) + ". ", TEXTS.waitForDirector))];
+  if (!isDirector()) return [make("p", { className: "note called" }, make("span", null, make("b", null, TEXTS.directorCalled(call.time)), " ", (reasonText(call.text) || TEXTS.nothingSaid) + ". ", TEXTS.waitForDirector))];
   const stateOf = (number) => lastTables && lastTables.tables.find((one) => one.number === number);
   const open = () => { const state = stateOf(call.table); if (state) openTable(state); };
   const grant = (number) => { const state = stateOf(number); if (state) grantBack(state); };

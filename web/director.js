@@ -728,7 +728,7 @@ function sayRuling() {
   const { board, per } = opened;
   sayBack(board);
   const tricks = numberAt("rule-tricks");
-  say("tricks-then", withTricks(board, tricks));
+  say("tricks-then", board.result.none ? "" : withTricks(board, tricks));
   say("rule-set", board.result.none ? TEXTS.notOver : TEXTS.setTricksTo(tricks));
   at("rule-set").disabled = Boolean(board.result.none);
   say("rule-assign", TEXTS.assignIt(scoreThen(board, ...assigned())));
@@ -813,7 +813,7 @@ function diskNodes(disks) {
 
 function showDisks() {
   if (desk.ends === null) return;
-  say("serving", TEXTS.serving(new Date(desk.at + SECOND * desk.ends).toLocaleTimeString([], { hour: "2-digit", minute: "2-digit" })));
+  say("serving", TEXTS.serving(timeText(desk.at + SECOND * desk.ends)));
   const told = [desk.disk, ...desk.kept].join("\n");
   if (told === at("disks").shows) return;
   at("disks").shows = told;
@@ -848,7 +848,7 @@ async function showRankings() {
   if (key !== asked) return;
   if (text === null || replies.includes(null)) return tell(TEXTS.noAnswer);
   pairNames = shownPairs(namesIn(text));
-  const time = make("p", { className: "small" }, TEXTS.asOf(new Date().toLocaleTimeString()));
+  const time = make("p", { className: "small" }, TEXTS.asOf(timeText(Date.now())));
   if (at("rankings")) at("rankings").replaceChildren(time,
     ...rankings(replies, 0, pairNames).flat());
 }

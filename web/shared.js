@@ -227,6 +227,7 @@ function rankings(replies, own, names) {
 function rankingNode(reply, alone, own, names) {
   const lines = rankingLines(reply);
   const [title, label] = rankingTitles(lines, alone);
+  if (lines.every((words) => words[words.length - 1] === "-")) return [make("h2", null, title), make("p", null, TEXTS.noResults)];
   const named = names.size > 0;
   const titles = TEXTS.rankingHeads.slice(0, lines.length ? lines[0].length : 0);
   if (named) titles.splice(2, 0, TEXTS.names);
@@ -258,7 +259,7 @@ function eveningNodes() {
   const large = (words) => make("p", { className: "large" }, words);
   if (evening === null) return [large(TEXTS.title)];
   const [year, month, day] = evening.date.split(".").map(Number);
-  const date = new Date(year, month - 1, day).toLocaleDateString([], { weekday: "long", day: "numeric", month: "long", year: "numeric" });
+  const date = new Date(year, month - 1, day).toLocaleDateString(TEXTS.locale, { weekday: "long", day: "numeric", month: "long", year: "numeric" });
   return [make("p", { className: "second" }, evening.site), large(evening.event), make("p", null, date), make("p", { className: "second" }, TEXTS.planOf(...evening.plan))];
 }
 

@@ -576,7 +576,7 @@ function claimSheet(place, view) {
   return sheet("claiming", TEXTS.claimTitle, make("h2", null, TEXTS.claimTitle), make("div", null, TEXTS.claimOf(left)),
     make("div", { className: "numbers" }, ...some), make("div", { className: "ends" }, choice(0, TEXTS.claimNone), choice(left, TEXTS.claimAll(left))),
     make("p", null, claimWords(place, view, view.seat, claiming.tricks) + "."),
-    make("div", { className: "says" }, make("label", { for: "claim-says" }, TEXTS.claimSays), said), make("p", { className: "second" }, TEXTS.claimHelp),
+    make("div", { className: "says" }, make("label", { for: "claim-says" }, TEXTS.claimSays), said), make("p", { className: "second" }, TEXTS.claimHelp(isOurs(view, place.contract.declarer))),
     make("div", { className: "row" }, button(TEXTS.back, "", "claim-back", true, () => { claiming = null; drawn(); }), claim));
 }
 
@@ -592,10 +592,10 @@ function lastSheet(place, view) {
 function answerDock(place, view) {
   const line = (word) => word + " " + key + " " + view.board + " " + view.made.claims;
   const agreed = desk.agreed.length ? ". " + TEXTS.agrees(desk.agreed.map((seat) => SEAT_NAMES[seat])) : TEXTS.ifAgreed;
-  const said = desk.said ? [make("span", { className: "said" }, TEXTS.saidWith(desk.said))] : [];
+  const said = desk.said ? [make("p", { className: "said" }, TEXTS.saidWith(SEAT_NAMES[view.claim.seat], desk.said))] : [];
   return make("section", { id: "dock", className: "claimed", aria_label: TEXTS.theClaim },
     make("p", null, make("b", null, TEXTS.claims(SEAT_NAMES[view.claim.seat], view.claim.tricks, leftOf(view))), make("br"),
-      claimWords(place, view, view.claim.seat, Number(view.claim.tricks)) + agreed, ...said),
+      claimWords(place, view, view.claim.seat, Number(view.claim.tricks)) + agreed), ...said,
     refuseButton(line("REFUSE")), button(TEXTS.agree, "", "agree", true, (event) => { if (!isDeaf(event)) send(line("AGREE")); }));
 }
 
@@ -638,7 +638,7 @@ function waiting(place, view) {
   if (view.claim) {
     const { seat, tricks } = view.claim;
     if (place.answer) return TEXTS.answerWaited;
-    if (hasAgreed(place, view)) return TEXTS.youAgreed(SEAT_NAMES[partner(view.seat)]);
+    if (hasAgreed(place, view)) return TEXTS.youAgreed(SEAT_NAMES[seat], TEXTS.fewOf(tricks, leftOf(view)), SEAT_NAMES[partner(view.seat)]);
     return (seat === view.seat ? TEXTS.youClaim(tricks, leftOf(view)) : TEXTS.claimsFew(SEAT_NAMES[seat], tricks, leftOf(view))) + answersWords(place, view);
   }
   if (!view.playing) return view.turn === view.seat ? TEXTS.yourTurnToCall : TEXTS.isToCall(SEAT_NAMES[view.turn]);
@@ -786,13 +786,15 @@ function wayText(table, next) {
   return up === 0 ? TEXTS.stay : TEXTS.goTo(next.number, up);
 }
 
-// Whom he meets at his next table.
+// Who sits at his next table: he and his partner, and whom they meet.
 function meetNodes(next) {
   if (desk.meets === null) return [];
   const names = shownAt(desk.meets.names);
-  const others = SEATS.filter((seat) => seat !== next.seat && seat !== partner(next.seat));
+  const own = [next.seat, partner(next.seat)];
+  const others = SEATS.filter((seat) => !own.includes(seat));
   const pair = others.includes("N") ? desk.meets.ns : desk.meets.ew;
-  return [make("h2", null, TEXTS.youMeet(pair)), seatsNode(others, (seat) => names[seat])];
+  return [seatsNode(own, (seat) => (seat === next.seat ? TEXTS.isYou(names[seat]) : names[seat])),
+    make("h2", null, TEXTS.youMeet(pair)), seatsNode(others, (seat) => names[seat])];
 }
 
 function betweenNodes(place, next) {
@@ -802,7 +804,7 @@ function betweenNodes(place, next) {
       make("p", { className: "large" }, TEXTS.tableSeat(next.number, SEAT_NAMES[next.seat])),
       make("p", null, TEXTS.boardsOf(next.first, next.last) + ". ",
         make("b", null, wayText(place.table, next))), ...wayNodes(place.table, next), ...meetNodes(next),
-      make("p", { className: "second" }, TEXTS.roundBegins)));
+      make("p", { className: "second" }, TEXTS.roundBegins(place.round + 1))));
   }
   const here = make("section", { className: "panel" }, make("p", { className: "second" }, TEXTS.roundOf(place.round, place.rounds)));
   if (place.table) here.append(
@@ -870,10 +872,11 @@ function showView(placeReply, reply) {
     const status = refused === "NotDealt" ? TEXTS.notDealtYet(place.round === 1 && !told.boards.length) : done ? TEXTS.boardsDone + nextText(place)
       : refused === "SitsOut" ? TEXTS.sitsOut + " " + nextText(place) : TEXTS.refusals[refused] || reply;
     drawn = () => {};
-    if (showLeaf(place, TEXTS.toNext)) return;
-    barFor(place, null);
     const goesTo = (done || refused === "SitsOut") && place.next;
+    if (showLeaf(place, goesTo ? TEXTS.toRound(place.round + 1) : TEXTS.toNext)) return;
+    barFor(place, null);
     nextRound = goesTo ? place.round + 1 : null;
+    showClock();
     show(made + told.text + JSON.stringify(desk.meets), status, "between" + (goesTo ? " goes-on" : ""), () => betweenNodes(place, goesTo));
     return;
   }

@@ -125,7 +125,7 @@ def play(window, line):
     window.click(pressed)
     window.wait(f"!busy && document.body.innerText !== {json.dumps(before)}")
     notice = window.value("document.getElementById('notice').textContent")
-    due = "You have refused the claim. Play goes on." if words[0] == "REFUSE" else ""
+    due = "You have refused the claim. Play goes on; call the director if need be." if words[0] == "REFUSE" else ""
     assert notice == due, f"{line}: {notice}"
 
 

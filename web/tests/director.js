@@ -132,7 +132,7 @@ run({
 
   "a round is ended once all tables are done": async () => {
     assert.ok((await opened(tables(AT_PLAY))).at("end-round").disabled);
-    assert.strictEqual((await opened(tables(AT_PLAY))).text("end-round"), "End round 2. Still at play: tables 1, 2; No deal yet: table 3");
+    assert.strictEqual((await opened(tables(AT_PLAY))).text("end-round"), "End round 2. Still at play: tables 1, 2; no deal yet: table 3");
     const undealt = await opened(tables(["TABLE 1 1 8 - NotDealt", "TABLE 2 2 9 - NotCurrent"]));
     assert.ok(undealt.at("end-round").disabled);
     assert.deepStrictEqual([undealt.text("end-round"), undealt.text("status"), undealt.text("round-is")],
@@ -571,6 +571,10 @@ run({
     await page.click("rank");
     assert.deepStrictEqual(page.at("rankings").nodes.filter((node) => node.tag === "h2").map((node) => node.textContent), ["Ranking"]);
     assert.deepStrictEqual(page.rows(page.named("Places of all pairs"))[1], ["1", "2", "6.0/8.0", "75.00"]);
+    const first = await opened(tables(AT_PLAY), (where, body) => (where === "/results" ? "" : body.endsWith(" 1\n") ? "OK\n1 1 0.0/0.0 -\n1 2 0.0/0.0 -\n.\n" : "ERR 4 NoSuchPlay\n"));
+    await first.click("tab-standings");
+    await first.click("rank");
+    assert.match(first.text("rankings"), /No results yet\.$/);
   },
 
   "results are shown, and printed": async () => {

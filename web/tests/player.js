@@ -226,7 +226,7 @@ run({
     assert.strictEqual(page.at("agree"), null);
     assert.strictEqual(page.text("status"), "You claim 5 of 13. East is asked.", "a defender's claim");
     const agreed = (contract, claim) => seated(place({ CONTRACT: contract }), play({ AT: "7 20 1", CLAIM: claim }));
-    assert.strictEqual((await agreed("1H E", "E 5")).text("status"), "You have agreed. North is asked.");
+    assert.strictEqual((await agreed("1H E", "E 5")).text("status"), "You agreed: East has 5 of 13. North is asked.");
     assert.strictEqual((await agreed("1H N", "N 5")).text("status"), "North claims 5 of 13. East and West are asked.", "dummy is not asked");
     assert.strictEqual((await agreed("1H E", "N 5")).text("status"), "North claims 5 of 13. East is asked.", "a defender's claim asks declarer alone");
   },
@@ -643,7 +643,7 @@ run({
     await page.click("print");
     assert.strictEqual(page.printed, 1);
     assert.deepStrictEqual(await page.click("my-boards"), asked);
-    assert.deepStrictEqual(page.rows(page.at("card"))[1], ["4", "Eve \u2013 Fay", "3NT E", "\u2666\ufe0e2", "8", "\u221250", ""]);
+    assert.deepStrictEqual(page.rows(page.at("card"))[1], ["4", "Eve \u2013 Fay", "3NT E", "\u2666\ufe0e2", "8", "\u221250"]);
     assert.strictEqual(page.text("onward"), "To the ranking");
     await page.click("onward");
     assert.ok(page.at("own"));
@@ -667,7 +667,7 @@ run({
     const page = await seated(place(), view({ PLAY: "1 2 2 5" }), "OK\n", boards(board()));
     await page.click("menu");
     await page.click("menu-boards");
-    assert.deepStrictEqual(page.rows(page.at("card")), [["Board", "Against", "Contract", "Lead", "Tr.", "Score", "So far"], ["4", "Eve \u2013 Fay", "3NT S", "\u2666\ufe0e2", "9", "+600", ""]]);
+    assert.deepStrictEqual(page.rows(page.at("card")), [["Board", "Against", "Contract", "Lead", "Tr.", "Score"], ["4", "Eve \u2013 Fay", "3NT S", "\u2666\ufe0e2", "9", "+600"]]);
     await page.click("open-1-4");
     const signed = (suit, cards) => cards.map((card) => suit + "\ufe0e" + card);
     assert.deepStrictEqual(page.rows(page.at("tricks")).slice(1), [
@@ -792,6 +792,7 @@ run({
     page.now += 30000;
     await page.look();
     assert.match(page.text("main"), /Evening so far: 50\.0\s%/);
+    assert.deepStrictEqual(page.rows(page.at("card"))[0].slice(-2), ["Score", "So far"]);
   },
 
   "what had no answer is told once something came": async () => {
@@ -815,8 +816,8 @@ run({
       const { answer } = page;
       page.answer = () => `OK\nNOW 7 14400\nCALL 2 7 2 Dan ${words}\n.\n`;
       assert.deepStrictEqual(await page.click("call-director"), [`/desk ${KEY}${order}`]);
-      const time = new Date(page.now).toLocaleTimeString([], { hour: "2-digit", minute: "2-digit" });
-      assert.strictEqual(page.text("desk"), `Director called, ${time}: ${words || "no reason said"}. Please wait, play nothing.`);
+      const time = new Date(page.now).toLocaleTimeString("en-GB", { hour: "2-digit", minute: "2-digit" });
+      assert.strictEqual(page.text("desk"), `Director called, ${time}: ${words ? "out of turn" : "no reason said"}. Please wait, play nothing.`);
       page.answer = answer;
       await page.look();
       assert.deepStrictEqual([page.text("desk"), page.text("notice")], ["", "The director has seen the call and is on the way."]);

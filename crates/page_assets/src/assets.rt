@@ -177,7 +177,7 @@ body.director:not(.at-table) #status.lost { position: fixed; inset: auto 0 .75re
 .login { background: var(--felt); }
 .login::before {
   content: "\2660\fe0e \2665\fe0e\A\2666\fe0e \2663\fe0e"; white-space: pre; position: fixed; inset: 0; display: grid; place-content: center; color: rgb(255 255 255 / 7%);
-  font: 14rem/1.2 "Segoe UI Symbol", "Apple Symbols", "Noto Sans Symbols2", "DejaVu Sans", sans-serif; overflow: hidden; pointer-events: none;
+  font: 14rem/1.7 "Segoe UI Symbol", "Apple Symbols", "Noto Sans Symbols2", "DejaVu Sans", sans-serif; overflow: hidden; pointer-events: none;
 }
 body.login main { max-width: 28rem; margin: auto; }
 .login .panel { margin: 0; padding: 1.25rem; border: 0; border-radius: 1rem; box-shadow: 0 6px 24px rgb(0 0 0 / 35%); position: relative; }
@@ -185,15 +185,16 @@ body.login main { max-width: 28rem; margin: auto; }
 .login .panel input[aria-invalid=true] { border-color: var(--bad); }
 .login .panel button { width: 100%; margin-top: .25rem; }
 .login .panel .send { min-height: 3.25rem; font-size: 1.125rem; }
-.login .panel label { display: block; min-height: 0; margin-bottom: .3rem; font-weight: bold; }
+.login .panel label { display: block; min-height: 0; margin-bottom: .5rem; font-weight: bold; }
 .login .panel .large { margin: 0; font-size: 1.625rem; }
-.login-head { margin-bottom: .75rem; }
+.login-head { margin-bottom: 1rem; }
 .login-head p { margin: 0 0 .35rem; }
+.login .login-head .large:not(:last-child) { margin-bottom: .4rem; }
 .login .login-head .second:first-child { font-size: 1rem; }
 .login .second { font-size: .875rem; }
 .login-more { margin-top: 1rem; }
-.login a.send { display: grid; place-items: center; min-height: 3.25rem; border-radius: .5rem; font-size: 1.125rem; font-weight: bold; text-decoration: none; }
-#colours::before { content: "Aa"; margin-right: .6rem; font-weight: normal; }
+.login a.send { margin-top: .75rem; display: grid; place-items: center; min-height: 3.25rem; border-radius: .5rem; font-size: 1.125rem; font-weight: bold; text-decoration: none; }
+#colours::before { content: "Aa"; margin-right: .6rem; }
 #wrong { margin: .4rem 0; padding-left: 1.5rem; color: var(--bad); font-weight: bold; }
 #wrong:not(:empty)::before { content: "\2715"; float: left; margin-left: -1.4rem; }
 #wrong:empty { display: none; }
@@ -579,7 +580,6 @@ td.marked { outline: 2px dashed var(--blue); outline-offset: -2px; }
 #dock.play:has([hidden]) { grid-template-columns: 1fr 1fr; }
 #dock.claimed { grid-template-columns: 1fr 1fr; color: var(--gold-ink); background: var(--gold); }
 #dock.claimed p { grid-column: 1 / -1; margin: 0; line-height: 1.25; }
-.said { display: block; }
 #dock.claimed button { min-height: 3.25rem; font-size: 1.0625rem; }
 #refuse { color: #a8001c; background: #fff; border-color: #a8001c; }
 #agree { color: #fff; background: #0b57a4; border-color: #0b57a4; }
@@ -609,7 +609,7 @@ td.marked { outline: 2px dashed var(--blue); outline-offset: -2px; }
 @media (max-width: 39.99em) and (max-height: 49.99em) {
   #stage { gap: .25rem .4rem; padding: .2rem .5rem; }
   .playing #status:not(.turn) { font-size: .875rem; }
-  .said { max-height: 2.5rem; overflow-y: auto; font-size: .875rem; }
+  #dock.claimed .said { font-size: .875rem; }
   .at-table:has(.said) #status:not(.lost) { position: absolute; width: 1px; height: 1px; margin: 0; padding: 0; overflow: hidden; clip-path: inset(50%); }
   .at-table:has(#desk:not(:empty), #notice:not(:empty)) { --th: 3.1rem; }
   .at-table:has(#desk:not(:empty), #notice:not(:empty)) :is(.at-left, .at-right) { --ch: 2.2rem; }
@@ -724,12 +724,14 @@ td.marked { outline: 2px dashed var(--blue); outline-offset: -2px; }
   .dummy-left #stage { grid-template-columns: 13.5rem minmax(0, 1fr) 8rem; }
   .dummy-right #stage { grid-template-columns: 8rem minmax(0, 1fr) 13.5rem; }
   :is(.dummy-left .at-left, .dummy-right .at-right) > .plate { display: flex; max-width: 13rem; }
+  .at-table:has(#desk > .called) #status:not(.lost) { clip-path: inset(50%); }
   #dock { gap: .4rem; padding: .5rem 1rem max(.5rem, env(safe-area-inset-bottom)); }
   #dock.play:not(:has([hidden])) { grid-template-columns: 9.5rem 7.5rem 1fr; }
   #dock.play button { min-height: 3.25rem; }
   #dock.claimed { grid-template-columns: minmax(0, 1fr) 10rem 10rem; align-items: center; }
   #dock.claimed p { grid-column: auto; max-height: 3.25rem; overflow-y: auto; font-size: .875rem; line-height: 1.2; }
   #dock.claimed b { font-size: 1rem; }
+  #dock.claimed .said { grid-area: 2 / 1 / auto / -1; max-height: none; }
   .sheet .trick { --tw: 4.5rem; --th: 6.25rem; gap: .3rem .5rem; }
   .sheet .played, .sheet .played .suit { font-size: 2rem; }
   .sheet { inset: 0; width: min(34rem, 100% - 2rem); height: fit-content; margin: auto; padding: 1.25rem; border-radius: .75rem; }
@@ -756,7 +758,7 @@ td.marked { outline: 2px dashed var(--blue); outline-offset: -2px; }
   .side-last { grid-column: 2; }
   .side-round { grid-column: 3; }
   .side-last p { grid-template-columns: 1fr 1fr; }
-  #side .side-auction td { height: 1.25rem; font-size: .9375rem; line-height: 1; }
+  #side .side-auction td { height: 1rem; padding-block: 0; font-size: .875rem; line-height: 1; }
   .bidding #side { display: none; }
   .box-call, .box #confirm { min-height: 3.25rem; }
 }
@@ -810,6 +812,10 @@ td.marked { outline: 2px dashed var(--blue); outline-offset: -2px; }
 .between .panel { width: 100%; max-width: 40rem; margin: 0 auto; }
 .between:not(.goes-on) .panel { grid-column: 1 / -1; }
 .between #card :is(.who, th:nth-child(2)) { display: none; }
+.between .second { font-size: .875rem; }
+#card td { padding-block: 0; }
+.round .now { font-weight: bold; }
+.between .round b { font-size: 1rem; }
 #between-boards { flex: 1; }
 .round { display: flex; gap: .4rem; margin: 0; padding: 0; list-style: none; }
 .round li { display: grid; flex: 1; justify-items: center; padding: .2rem; border: 1px solid var(--edge); border-radius: .5rem; font-size: .875rem; }
@@ -827,7 +833,7 @@ td.marked { outline: 2px dashed var(--blue); outline-offset: -2px; }
 .tiles p { margin: .5rem 0 .25rem; }
 .tiles li { padding: .2rem .5rem; border: 1px solid var(--edge); border-radius: .5rem; font-size: .875rem; font-variant-numeric: tabular-nums; }
 .tiles .own { color: var(--gold-ink); background: var(--gold); border-color: var(--gold); }
-.figures { display: grid; grid-template-columns: repeat(auto-fit, minmax(5.5rem, 1fr)); gap: 0 .6rem; }
+.figures { display: grid; grid-template-columns: repeat(3, minmax(0, 1fr)); gap: 0 .6rem; }
 .figure { padding: .5rem .6rem; }
 .figure p { margin: 0; }
 .figure .second { font-size: .8125rem; line-height: 1.2; }
@@ -1029,8 +1035,12 @@ td.marked { outline: 2px dashed var(--blue); outline-offset: -2px; }
   .login .panel { display: grid; grid-template: "head key" auto "more key" 1fr / 1fr 1fr; gap: 0 1.5rem; max-width: none; }
   .login-key { grid-area: key; }
   .login-more { align-self: end; margin: 0; }
+  .login div.panel { display: block; max-width: 28rem; margin: 0 auto; }
+  .between.goes-on #main { grid-template-columns: repeat(2, minmax(0, 1fr)); }
+  .between.goes-on .panel { max-width: none; padding: .6rem .75rem; }
+  .between .large { font-size: 1.625rem; }
 }
-@media (min-width: 40em) and (min-height: 30.01em) {
+@media (min-width: 40em) {
   .login::before { content: "\2660\fe0e \2665\fe0e \2666\fe0e \2663\fe0e"; padding: 0 4rem; place-content: center stretch; white-space: normal; text-align-last: justify; font-size: 9rem; }
 }
 @media print {
@@ -1047,6 +1057,8 @@ pub const TEXTS_SCRIPT: &str = r##""use strict";
 // All that the pages say. Another language is another file of this form.
 
 const TEXTS = {
+  // How times and dates are written.
+  locale: "en-GB",
   title: "Bridge table",
   planOf: (tables, _rounds, boards, scoring) => tables + " tables \u00b7 " + (boards === "1" ? "1 board" : boards + " boards") + " a round \u00b7 " + (scoring === "MP" ? "matchpoints" : "IMPs"),
   youMeet: (pair) => "You meet pair " + pair,
@@ -1206,7 +1218,7 @@ const TEXTS = {
   isToCall: (seat) => seat + " is to call.",
   yourTurnToCall: "Your turn to call",
   follow: (suit) => "Your turn: follow with a " + suit,
-  followDummy: (suit) => "Your turn: from dummy, a " + suit,
+  followDummy: (suit) => "Your turn: play a " + suit + " from dummy",
   openingLead: "Your turn: the opening lead",
   turnIsYours: "Your turn",
   turnFromDummy: "Your turn: play from dummy",
@@ -1223,7 +1235,7 @@ const TEXTS = {
   claimNone: "None",
   claimAll: (left) => "All " + left,
   claimTricks: (tricks) => "Claim " + tricks + (tricks === 1 ? " trick" : " tricks"),
-  claimHelp: "Say your line aloud. Who is asked agrees or refuses.",
+  claimHelp: (isDeclarer) => "Say your line aloud. " + (isDeclarer ? "Both opponents are" : "Declarer is") + " asked to agree.",
   theClaim: "The claim",
   ifAgreed: ", if all agree.",
   refuse: "Refuse",
@@ -1234,7 +1246,7 @@ const TEXTS = {
   someOf: (tricks, left) => (Number(tricks) === left ? (left === 1 ? "the last trick" : "all " + left + " tricks left") : (Number(tricks) === 0 ? "none" : tricks) + " of the " + left + " tricks left"),
   claims: (seat, tricks, left) => seat + " claims " + TEXTS.someOf(tricks, left) + ". ",
   answerWaited: "Your answer is waited for",
-  youAgreed: (seat) => "You have agreed. " + seat + " is asked.",
+  youAgreed: (claimer, few, seat) => "You agreed: " + claimer + " has " + few + ". " + seat + " is asked.",
   reallyRefuse: "Really refuse?",
   agrees: (seats) => seats.join(" and ") + (seats.length === 1 ? " agrees." : " agree."),
   areAsked: (seats) => seats.join(" and ") + (seats.length === 1 ? " is asked." : " are asked."),
@@ -1245,7 +1257,7 @@ const TEXTS = {
   cardBack: "The director has taken back the last card.",
   endedByRuling: (board) => "Board " + board + " is not played on: the director has ruled so.",
   claimRefused: "The claim stands no more: it was refused, or the director took it back. Play goes on.",
-  youRefused: "You have refused the claim. Play goes on.",
+  youRefused: "You have refused the claim. Play goes on; call the director if need be.",
   claimRefusedBy: (seat) => seat + " does not agree to the claim. Play goes on; call the director if need be.",
 
   // Between the boards, and at the end.
@@ -1269,7 +1281,7 @@ const TEXTS = {
   roundOwn: (round) => "Your round " + round,
   youAreHere: "you are here",
   youGoHere: "you go here",
-  roundBegins: "The next round begins when the director ends this one.",
+  roundBegins: (round) => "Round " + round + " begins once the director has ended this one.",
   notDealtYet: (isFirst) => "The " + (isFirst ? "first" : "next") + " board is not dealt yet.",
   boardsDone: "Your boards of this round are done. ",
   closed: "The session is closed.",
@@ -1281,6 +1293,7 @@ const TEXTS = {
   pairAnd: (pair, names) => "Pair " + pair + (names ? ", " + names : ""),
   percent: (number) => number + "\u00a0%",
   ranking: "Ranking",
+  noResults: "No results yet.",
   rankingOfPairs: (first, last) => "Ranking, pairs " + first + " to " + last,
   places: "Places of all pairs",
   placesOfPairs: (first, last) => "Places of pairs " + first + " to " + last,
@@ -1303,6 +1316,7 @@ const TEXTS = {
   nextBoard: (number) => "Next: board " + number,
   nextYours: (number) => "Next: board " + number + ", your turn",
   toNext: "Go on",
+  toRound: (round) => "To round " + round,
   result: "The result",
   noResult: "at play",
   takenOut: "taken out by the director",
@@ -1345,7 +1359,7 @@ const TEXTS = {
   bell: "Director",
   callDirector: "Call the director",
   callTitle: (table) => "Call the director to " + (table ? "table " + table : "your table") + "?",
-  callHelp: "Everybody stops. What it is about helps, and may be left out:",
+  callHelp: "Everybody stops. A reason helps, but is not needed:",
   slip: "I did not mean my last call or card",
   reasons: ["I did not mean my last call or card", "Wrong call or card", "Out of turn", "Claim", "Hesitation or information", "Slow play", "Something else"],
   directorCalled: (time) => "Director called, " + time + ":",
@@ -1372,8 +1386,8 @@ const TEXTS = {
       : ["Every page says so, and nobody plays on.", "Free the device, and start the same command again: what was seen answered is there."]),
   clockLeft: "left",
   minutesLeft: (minutes) => (minutes === 1 ? "One minute left" : minutes + " minutes left") + " in this round",
-  claimSays: "What you say with it (may be left out)",
-  saidWith: (words) => "\u201c" + words + "\u201d",
+  claimSays: "Your line of play (optional)",
+  saidWith: (seat, words) => seat + " says: \u201c" + words + "\u201d",
   tableCalls: (table) => "Table " + table + " calls:",
   minutesAgo: (minutes) => (minutes === 0 ? "just now" : minutes === 1 ? "1 minute ago" : minutes + " minutes ago"),
   answered: "On my way",
@@ -1414,7 +1428,7 @@ const TEXTS = {
     .map(([what, tables]) => what + (tables.length === 1 ? ": table " : ": tables ") + tables.join(", ")),
   roundIs: (round, rounds, still) => "Round " + round + " of " + rounds + ". " + still,
   allEnded: "All rounds are ended",
-  endWaits: (round, open) => "End round " + round + ". " + open.join("; "),
+  endWaits: (round, open) => "End round " + round + ". " + open.map((words, i) => (i ? words[0].toLowerCase() + words.slice(1) : words)).join("; "),
   endRound: (round, last) => "End round " + round + (last ? ", and close the session" : ""),
   endOf: (round) => "End of round " + round,
   endTheRound: "End the round",
@@ -1775,6 +1789,7 @@ function rankings(replies, own, names) {
 function rankingNode(reply, alone, own, names) {
   const lines = rankingLines(reply);
   const [title, label] = rankingTitles(lines, alone);
+  if (lines.every((words) => words[words.length - 1] === "-")) return [make("h2", null, title), make("p", null, TEXTS.noResults)];
   const named = names.size > 0;
   const titles = TEXTS.rankingHeads.slice(0, lines.length ? lines[0].length : 0);
   if (named) titles.splice(2, 0, TEXTS.names);
@@ -1806,7 +1821,7 @@ function eveningNodes() {
   const large = (words) => make("p", { className: "large" }, words);
   if (evening === null) return [large(TEXTS.title)];
   const [year, month, day] = evening.date.split(".").map(Number);
-  const date = new Date(year, month - 1, day).toLocaleDateString([], { weekday: "long", day: "numeric", month: "long", year: "numeric" });
+  const date = new Date(year, month - 1, day).toLocaleDateString(TEXTS.locale, { weekday: "long", day: "numeric", month: "long", year: "numeric" });
   return [make("p", { className: "second" }, evening.site), large(evening.event), make("p", null, date), make("p", { className: "second" }, TEXTS.planOf(...evening.plan))];
 }
 
@@ -2559,7 +2574,7 @@ function claimSheet(place, view) {
   return sheet("claiming", TEXTS.claimTitle, make("h2", null, TEXTS.claimTitle), make("div", null, TEXTS.claimOf(left)),
     make("div", { className: "numbers" }, ...some), make("div", { className: "ends" }, choice(0, TEXTS.claimNone), choice(left, TEXTS.claimAll(left))),
     make("p", null, claimWords(place, view, view.seat, claiming.tricks) + "."),
-    make("div", { className: "says" }, make("label", { for: "claim-says" }, TEXTS.claimSays), said), make("p", { className: "second" }, TEXTS.claimHelp),
+    make("div", { className: "says" }, make("label", { for: "claim-says" }, TEXTS.claimSays), said), make("p", { className: "second" }, TEXTS.claimHelp(isOurs(view, place.contract.declarer))),
     make("div", { className: "row" }, button(TEXTS.back, "", "claim-back", true, () => { claiming = null; drawn(); }), claim));
 }
 
@@ -2575,10 +2590,10 @@ function lastSheet(place, view) {
 function answerDock(place, view) {
   const line = (word) => word + " " + key + " " + view.board + " " + view.made.claims;
   const agreed = desk.agreed.length ? ". " + TEXTS.agrees(desk.agreed.map((seat) => SEAT_NAMES[seat])) : TEXTS.ifAgreed;
-  const said = desk.said ? [make("span", { className: "said" }, TEXTS.saidWith(desk.said))] : [];
+  const said = desk.said ? [make("p", { className: "said" }, TEXTS.saidWith(SEAT_NAMES[view.claim.seat], desk.said))] : [];
   return make("section", { id: "dock", className: "claimed", aria_label: TEXTS.theClaim },
     make("p", null, make("b", null, TEXTS.claims(SEAT_NAMES[view.claim.seat], view.claim.tricks, leftOf(view))), make("br"),
-      claimWords(place, view, view.claim.seat, Number(view.claim.tricks)) + agreed, ...said),
+      claimWords(place, view, view.claim.seat, Number(view.claim.tricks)) + agreed), ...said,
     refuseButton(line("REFUSE")), button(TEXTS.agree, "", "agree", true, (event) => { if (!isDeaf(event)) send(line("AGREE")); }));
 }
 
@@ -2621,7 +2636,7 @@ function waiting(place, view) {
   if (view.claim) {
     const { seat, tricks } = view.claim;
     if (place.answer) return TEXTS.answerWaited;
-    if (hasAgreed(place, view)) return TEXTS.youAgreed(SEAT_NAMES[partner(view.seat)]);
+    if (hasAgreed(place, view)) return TEXTS.youAgreed(SEAT_NAMES[seat], TEXTS.fewOf(tricks, leftOf(view)), SEAT_NAMES[partner(view.seat)]);
     return (seat === view.seat ? TEXTS.youClaim(tricks, leftOf(view)) : TEXTS.claimsFew(SEAT_NAMES[seat], tricks, leftOf(view))) + answersWords(place, view);
   }
   if (!view.playing) return view.turn === view.seat ? TEXTS.yourTurnToCall : TEXTS.isToCall(SEAT_NAMES[view.turn]);
@@ -2769,13 +2784,15 @@ function wayText(table, next) {
   return up === 0 ? TEXTS.stay : TEXTS.goTo(next.number, up);
 }
 
-// Whom he meets at his next table.
+// Who sits at his next table: he and his partner, and whom they meet.
 function meetNodes(next) {
   if (desk.meets === null) return [];
   const names = shownAt(desk.meets.names);
-  const others = SEATS.filter((seat) => seat !== next.seat && seat !== partner(next.seat));
+  const own = [next.seat, partner(next.seat)];
+  const others = SEATS.filter((seat) => !own.includes(seat));
   const pair = others.includes("N") ? desk.meets.ns : desk.meets.ew;
-  return [make("h2", null, TEXTS.youMeet(pair)), seatsNode(others, (seat) => names[seat])];
+  return [seatsNode(own, (seat) => (seat === next.seat ? TEXTS.isYou(names[seat]) : names[seat])),
+    make("h2", null, TEXTS.youMeet(pair)), seatsNode(others, (seat) => names[seat])];
 }
 
 function betweenNodes(place, next) {
@@ -2785,7 +2802,7 @@ function betweenNodes(place, next) {
       make("p", { className: "large" }, TEXTS.tableSeat(next.number, SEAT_NAMES[next.seat])),
       make("p", null, TEXTS.boardsOf(next.first, next.last) + ". ",
         make("b", null, wayText(place.table, next))), ...wayNodes(place.table, next), ...meetNodes(next),
-      make("p", { className: "second" }, TEXTS.roundBegins)));
+      make("p", { className: "second" }, TEXTS.roundBegins(place.round + 1))));
   }
   const here = make("section", { className: "panel" }, make("p", { className: "second" }, TEXTS.roundOf(place.round, place.rounds)));
   if (place.table) here.append(
@@ -2853,10 +2870,11 @@ function showView(placeReply, reply) {
     const status = refused === "NotDealt" ? TEXTS.notDealtYet(place.round === 1 && !told.boards.length) : done ? TEXTS.boardsDone + nextText(place)
       : refused === "SitsOut" ? TEXTS.sitsOut + " " + nextText(place) : TEXTS.refusals[refused] || reply;
     drawn = () => {};
-    if (showLeaf(place, TEXTS.toNext)) return;
-    barFor(place, null);
     const goesTo = (done || refused === "SitsOut") && place.next;
+    if (showLeaf(place, goesTo ? TEXTS.toRound(place.round + 1) : TEXTS.toNext)) return;
+    barFor(place, null);
     nextRound = goesTo ? place.round + 1 : null;
+    showClock();
     show(made + told.text + JSON.stringify(desk.meets), status, "between" + (goesTo ? " goes-on" : ""), () => betweenNodes(place, goesTo));
     return;
   }
@@ -3395,6 +3413,7 @@ function overNodes(place, board, next) {
 
 // The score card of what this pair has played; a board opens from it.
 function cardTable(place, boards) {
+  const hasWorth = boards.some((board) => board.worth && board.worth !== "-");
   const rows = boards.map((board) => {
     const others = SEATS.filter((seat) => (seat === "N" || seat === "S") !== (board.side === "NS"));
     const opens = button(String(board.number), TEXTS.openBoard(board.number),
@@ -3403,9 +3422,10 @@ function cardTable(place, boards) {
     return make("tr", null, make("td", null, opens), make("td", { className: "who" },
       ...nameNodes(board.names[others[0]]), " \u2013 ", ...nameNodes(board.names[others[1]])), make("td", null, ...resultNodes(board.result)),
       make("td", null, ...(lead ? [cardInText(lead.card, cardName(lead.card))] : [])),
-      numberCell(tricksText(board.result)), numberCell(scoreText(board)), make("td", { className: "number" }, ...worthNodes(board.worth)));
+      numberCell(tricksText(board.result)), numberCell(scoreText(board)), ...(hasWorth ? [make("td", { className: "number" }, ...worthNodes(board.worth))] : []));
   });
-  return make("table", { id: "card", className: "list", aria_label: TEXTS.scoreCard }, listHeads(TEXTS.cardHeads, 3), make("tbody", null, ...rows));
+  return make("table", { id: "card", className: "list", aria_label: TEXTS.scoreCard },
+    listHeads(hasWorth ? TEXTS.cardHeads : TEXTS.cardHeads.slice(0, -1), 3), make("tbody", null, ...rows));
 }
 
 // The boards of this round: what came of those that are over, and which is at play.
@@ -3520,7 +3540,9 @@ let deskShown = "";
 let nextRound = null;
 let reason = null;
 
-const timeText = (time) => new Date(time).toLocaleTimeString([], { hour: "2-digit", minute: "2-digit" });
+const timeText = (time) => new Date(time).toLocaleTimeString(TEXTS.locale, { hour: "2-digit", minute: "2-digit" });
+// A reason of the page's own goes on in the sentence.
+const reasonText = (words) => (TEXTS.reasons.includes(words) && !words.startsWith("I ") ? words[0].toLowerCase() + words.slice(1) : words);
 
 // A line from so many words on.
 const wordsFrom = (line, count) => line.split(" ").slice(count).join(" ");
@@ -3622,7 +3644,7 @@ function showClock() {
 const whoCalls = ({ pair, name }) => TEXTS.ofPair(shownName(pair, name), pair);
 
 function callNodesOf(call) {
-  if (!isDirector()) return [make("p", { className: "note called" }, make("span", null, make("b", null, TEXTS.directorCalled(call.time)), " ", (call.text || TEXTS.nothingSaid) + ". ", TEXTS.waitForDirector))];
+  if (!isDirector()) return [make("p", { className: "note called" }, make("span", null, make("b", null, TEXTS.directorCalled(call.time)), " ", (reasonText(call.text) || TEXTS.nothingSaid) + ". ", TEXTS.waitForDirector))];
   const stateOf = (number) => lastTables && lastTables.tables.find((one) => one.number === number);
   const open = () => { const state = stateOf(call.table); if (state) openTable(state); };
   const grant = (number) => { const state = stateOf(number); if (state) grantBack(state); };
@@ -4438,7 +4460,7 @@ function sayRuling() {
   const { board, per } = opened;
   sayBack(board);
   const tricks = numberAt("rule-tricks");
-  say("tricks-then", withTricks(board, tricks));
+  say("tricks-then", board.result.none ? "" : withTricks(board, tricks));
   say("rule-set", board.result.none ? TEXTS.notOver : TEXTS.setTricksTo(tricks));
   at("rule-set").disabled = Boolean(board.result.none);
   say("rule-assign", TEXTS.assignIt(scoreThen(board, ...assigned())));
@@ -4523,7 +4545,7 @@ function diskNodes(disks) {
 
 function showDisks() {
   if (desk.ends === null) return;
-  say("serving", TEXTS.serving(new Date(desk.at + SECOND * desk.ends).toLocaleTimeString([], { hour: "2-digit", minute: "2-digit" })));
+  say("serving", TEXTS.serving(timeText(desk.at + SECOND * desk.ends)));
   const told = [desk.disk, ...desk.kept].join("\n");
   if (told === at("disks").shows) return;
   at("disks").shows = told;
@@ -4558,7 +4580,7 @@ async function showRankings() {
   if (key !== asked) return;
   if (text === null || replies.includes(null)) return tell(TEXTS.noAnswer);
   pairNames = shownPairs(namesIn(text));
-  const time = make("p", { className: "small" }, TEXTS.asOf(new Date().toLocaleTimeString()));
+  const time = make("p", { className: "small" }, TEXTS.asOf(timeText(Date.now())));
   if (at("rankings")) at("rankings").replaceChildren(time,
     ...rankings(replies, 0, pairNames).flat());
 }
@@ -4694,7 +4716,7 @@ pub const UNKNOWN_PAGE: &str = r##"<!doctype html>
 <main>
 <div class="panel">
 <div class="login-head"><h1 class="large">No such page</h1></div>
-<div class="login-key"><p>The bridge tables are at the first page of this server.</p><p><a class="send" href="/">To the tables</a></p></div>
+<div class="login-key"><p>The bridge tables are on the first page of this server.</p><p><a class="send" href="/">To the tables</a></p></div>
 </div>
 </main>
 </body>
@@ -4716,7 +4738,7 @@ pub const WRONG_HOST: &str = r##"<!doctype html>
 <main>
 <div class="panel">
 <div class="login-head"><h1 class="large">This address is not right</h1></div>
-<div class="login-key"><p>The bridge tables are not shown under the name in this address.</p><p class="second">Type the address that the director has given out, letter by letter.</p></div>
+<div class="login-key"><p>This server does not go by the name in this address.</p><p class="second">Type the address that the director gave you, letter by letter.</p></div>
 </div>
 </main>
 </body>
