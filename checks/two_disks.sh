@@ -7,7 +7,7 @@
 #     checks/two_disks.sh [FAULTS] [CUTS] [KILLS]     (so many at least; 2,000, 10,000 and 500 where none are named)
 #
 # It needs Debian's strace and Python. PROGRAM names a program that was built before; else it is proved and built. LANES says how many
-# runs go side by side; else as many as there are processors.
+# runs go side by side, else as many as there are processors; FROM is added to the seeds, so that other runs are made than before.
 set -eu
 top=$(cd "$(dirname "$0")/.." && pwd)
 work=$(mktemp -d)

@@ -18,6 +18,7 @@ from web import EXAMPLES, FOLDER, Web, run
 
 FAULTS, CUTS, KILLS = (int(word) for word in sys.argv[4:7])
 WORKERS = int(os.environ.get("LANES") or os.cpu_count())
+FROM = int(os.environ.get("FROM") or 0)
 with open(os.path.join(EXAMPLES, "two_tables_lines.txt")) as file:
     LINES = [line for line in file.read().splitlines() if not line.startswith("SEE")][:24]
 QUESTIONS = ["SEE 11", "SEE 12", "SEE 21", "SEE 22", "SEE 31", "SEE 41"]
@@ -222,7 +223,7 @@ def side_by_side(work, count):
     while sum(counts.values()) < count:
         done = sum(counts.values())
         share = -(-min(count - done, 1000) // WORKERS)
-        counts += in_turn(work, [(done + lane, share) for lane in range(WORKERS)])
+        counts += in_turn(work, [(FROM + done + lane, share) for lane in range(WORKERS)])
         print(f"so far: {dict(counts)}", flush=True)
     return counts
 
@@ -231,7 +232,7 @@ def all_faults():
     """At least FAULTS runs with a fault, whole turns of them."""
     counts, turn = collections.Counter(), 0
     while sum(counts.values()) - counts["no such call"] < FAULTS:
-        counts += in_turn(faulty, faults(turn))
+        counts += in_turn(faulty, faults(FROM + turn))
         turn += 1
         print(f"turn {turn}: {dict(counts)}", flush=True)
     del counts["no such call"]

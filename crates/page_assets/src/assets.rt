@@ -250,7 +250,7 @@ body.director main { max-width: 84rem; }
 #clock-sets input { width: 4rem; }
 #round p, #telling .row { margin: .2rem 0; }
 .disks { display: grid; grid-template-columns: repeat(auto-fit, minmax(min(100%, 14rem), 1fr)); gap: .6rem; margin: .5rem 0; padding: 0; list-style: none; }
-.disks li { display: grid; padding: .5rem .75rem; border: 1px solid var(--line); border-left: .5rem solid var(--good); border-radius: .75rem; overflow-wrap: anywhere; font-size: .875rem; }
+.disks li { display: grid; align-content: start; padding: .5rem .75rem; border: 1px solid var(--line); border-left: .5rem solid var(--good); border-radius: .75rem; overflow-wrap: anywhere; font-size: .875rem; }
 .disks b { font-size: 1rem; }
 .disks .large { font-size: 1.125rem; }
 .disks .large::before { content: "\2713\a0"; color: var(--good); }
