@@ -609,7 +609,7 @@ td.marked { outline: 2px dashed var(--blue); outline-offset: -2px; }
 @media (max-width: 39.99em) and (max-height: 49.99em) {
   #stage { gap: .25rem .4rem; padding: .2rem .5rem; }
   .playing #status:not(.turn) { font-size: .875rem; }
-  #dock.claimed .said { font-size: .875rem; }
+  #dock.claimed .said { font-size: .8125rem; line-height: 1.2; }
   .at-table:has(.said) #status:not(.lost) { position: absolute; width: 1px; height: 1px; margin: 0; padding: 0; overflow: hidden; clip-path: inset(50%); }
   .at-table:has(#desk:not(:empty), #notice:not(:empty)) { --th: 3.1rem; }
   .at-table:has(#desk:not(:empty), #notice:not(:empty)) :is(.at-left, .at-right) { --ch: 2.2rem; }
@@ -705,6 +705,8 @@ td.marked { outline: 2px dashed var(--blue); outline-offset: -2px; }
   #dock.play #confirm, #dock.play:has([hidden]) #last { grid-column: 1 / -1; }
   #last, #claim-open { flex-direction: column; gap: 0; font-size: .875rem; }
   #dock.claimed { align-self: end; align-content: end; gap: .4rem; }
+  #dock.claimed p { font-size: .9375rem; line-height: 1.2; }
+  #dock.claimed .said { font-size: .8125rem; }
   #dock.claimed button { gap: .2rem; min-height: 3rem; font-size: .9375rem; }
   #dock.claimed button::before { width: 1rem; height: 1rem; }
   #dock.claimed #refuse[aria-pressed=true]::before { content: none; }
