@@ -40,7 +40,7 @@ th { border-bottom: 2px solid var(--edge); font-size: .8125rem; color: var(--sec
 .sheet > table td:first-child, .lines td:nth-child(3), .card td:nth-child(5) { font-weight: bold; }
 .sheet > table td:nth-child(3), .card td:nth-child(4) { white-space: normal; overflow-wrap: anywhere; }
 .traveller { display: grid; grid-template-columns: minmax(0, 1fr); gap: 0 2rem; border-top: 1px solid var(--line); }
-.traveller > * { min-width: 0; justify-self: start; }
+.traveller > * { min-width: 0; align-self: start; justify-self: start; }
 .traveller > .lines { justify-self: stretch; order: 1; }
 .traveller > details { justify-self: stretch; order: 2; }
 .traveller > h3 + p + table:not([class]) { font-size: 1.125rem; }
@@ -49,7 +49,7 @@ th { border-bottom: 2px solid var(--edge); font-size: .8125rem; color: var(--sec
 tr:nth-child(5) > td:nth-child(2):empty::before { content: "N"; }
 tr:nth-child(6) > td:nth-child(2):empty::before { content: "W E"; word-spacing: 1.5em; }
 tr:nth-child(8) > td:nth-child(2):empty::before { content: "S"; }
-.often { align-self: start; width: 100%; max-width: 24rem; }
+.often { width: 100%; max-width: 24rem; }
 .often :is(th, td) { padding: .1rem .5rem; border: 0; color: inherit; font-size: 1rem; font-weight: normal; vertical-align: middle; }
 .often td:nth-child(2) { width: 100%; }
 .often svg { display: block; width: 100%; height: .4rem; border-radius: .2rem; }
