@@ -346,7 +346,7 @@ def killed(evening, page):
     page.window.wait(f"{text_of('status')}.startsWith('Round ')")
     page.window.click("#rank")
     page.told("")
-    page.window.wait("document.querySelectorAll('#rankings table').length === 2")
+    page.window.wait("document.querySelectorAll('#rankings h2').length === 2")
     page.goes_on()
 
 
@@ -456,7 +456,7 @@ def rankings(page):
     page.open("standings")
     page.window.value("document.getElementById('rankings').replaceChildren()")
     page.window.click("#rank")
-    page.window.wait("document.querySelectorAll('#rankings table').length === 2")
+    page.window.wait("document.querySelectorAll('#rankings h2').length === 2")
     time.sleep(0.5)
     return [page.ranking(field) for field in [1, 2]]
 
