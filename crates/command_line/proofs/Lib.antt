@@ -1,3 +1,3 @@
 pub mod Found
 pub mod Asked
-pub mod Adding
+pub mod Alone

@@ -1,11 +1,15 @@
 -- The command line, in the words of clap.
-use Rattle.std.specs.Prelude.{◌≡◌, ◌≢◌, ℕ, Bool, List, [], ◌∷◌, Option, None, Some, Ok, pos, true, false, codes, option_map}
+use Rattle.std.specs.Prelude.{◌≡◌, ◌≢◌, ℕ, Bool, List, [], ◌∷◌, Option, None, Some, Ok, IfOk, pos, true, false, codes, option_map}
 use Rattle.std.specs.Borrow.{Bor}
 use Rattle.std.specs.Str.Parse.{ParsesUnsigned}
 use Rattle.std.specs.declared.num.ParseIntError.{ParseIntError}
-use Rattle.clap.specs.Words.{App, Row, Rule, Text, new_app, new_rule, with_rule, with_subcommand, subcommand_of, one_of, first_of, fault_of}
+use Rattle.clap.specs.Words.{App, Row, Rule, Text, app_of, rule_of, new_app, new_rule, with_rule, with_subcommand, subcommand_of, one_of, first_of, fault_of}
+use Rattle.clap.specs.declared.builder.arg.Arg.{Arg}
+use Rattle.clap.specs.declared.builder.command.Command.{Command as clap_command}
+use Rattle.clap.specs.declared.builder.command.Command.TheViews.{out-Command as fields_of}
 use Rattle.clap.specs.declared.builder.action.ArgAction.TheVariants.{SetTrue}
 use Rattle.clap.specs.declared.builder.value_parser.ValueParser.TheVariants as parser
+use Rattle.command_line.specs.declared.declared.Declared.{Declared}
 use Rattle.command_line.specs.declared.command.Command.{Command}
 use Rattle.command_line.specs.declared.command.Command.TheVariants.{Auction, Format, Script, Correct, Serve, Web, Rank, Pbn, Results, Check, Plan, Draft, Slips, Evening, Makeable, Export, Copy, Version}
 use Rattle.command_line.specs.declared.command.WebHost.{WebHost}
@@ -16,9 +20,46 @@ use Rattle.command_line.specs.declared.command.EveningWords.{EveningWords}
 use Rattle.command_line.specs.declared.command.WordsFault.{WordsFault}
 use Rattle.command_line.specs.declared.command.WordsFault.TheVariants.{Usage, Memory}
 
+-- an argument of that name, which is required
+abbrev pub required_rule : Text → Rule
+required_rule name = record (new_rule name) { required = true }
+
+-- an argument of that name, which is required: a number from 1 to that
+abbrev pub number_rule : Text → ℕ → Rule
+number_rule name last = record (required_rule name) { parser = Some (parser.Signed (pos 1) (pos last)) }
+
+-- an option of that name, with a text that is not empty
+abbrev pub option_rule : Text → Rule
+option_rule name = record (new_rule name) { long = Some name; value_names = 1; parser = Some parser.NonEmptyString }
+
+-- an option of that name, with that text where none is given
+abbrev pub default_rule : Text → Text → Rule
+default_rule name text = record (option_rule name) { defaults = text ∷ [] }
+
+-- a flag of that name
+abbrev pub flag_rule : Text → Rule
+flag_rule name = record (new_rule name) { long = Some name; action = Some SetTrue }
+
+-- a command with these arguments, one after another
+abbrev pub with_rules : App → List Rule → App
+with_rules app [] = app
+with_rules app (rule ∷ more) = with_rules (with_rule app rule) more
+
+-- an argument that is declared so, for its command alone
+abbrev pub IsRuled : Rule → Arg → Type 0
+IsRuled rule argument = (rule_of argument ≡ rule) × (argument.global ≡ false)
+
+-- a command that is so, with no argument that others have too
+abbrev pub IsApp : App → clap_command → Type 0
+IsApp app command = (app_of command ≡ app) × ((fields_of command).has_globals ≡ false)
+
+-- a command that is declared so, unless memory was refused
+abbrev pub IsDeclared : App → Declared → Type 0
+IsDeclared app declared = IfOk declared.command (IsApp app)
+
 -- the argument BOARD, which is required: a number from 1 to 36
 abbrev pub board_rule : Rule
-board_rule = record (new_rule (codes "BOARD")) { required = true; parser = Some (parser.Signed (pos 1) (pos 36)) }
+board_rule = number_rule (codes "BOARD") 36
 
 -- the command `auction BOARD`
 abbrev pub auction_app : App
@@ -26,11 +67,11 @@ auction_app = with_rule (new_app (codes "auction")) board_rule
 
 -- the argument DISK, which is required
 abbrev pub disk_rule : Rule
-disk_rule = record (new_rule (codes "DISK")) { required = true }
+disk_rule = required_rule (codes "DISK")
 
 -- the argument CONFIG, which is required
 abbrev pub config_rule : Rule
-config_rule = record (new_rule (codes "CONFIG")) { required = true }
+config_rule = required_rule (codes "CONFIG")
 
 -- the command `format DISK CONFIG`
 abbrev pub format_app : App
@@ -50,11 +91,11 @@ correct_app = disk_app (codes "correct")
 
 -- the argument PORT, which is required: a number from 1 to 65535
 abbrev pub port_rule : Rule
-port_rule = record (new_rule (codes "PORT")) { required = true; parser = Some (parser.Signed (pos 1) (pos 65535)) }
+port_rule = number_rule (codes "PORT") 65535
 
 -- the argument COUNT, which is required: a number from 1 to 1000
 abbrev pub count_rule : Rule
-count_rule = record (new_rule (codes "COUNT")) { required = true; parser = Some (parser.Signed (pos 1) (pos 1000)) }
+count_rule = number_rule (codes "COUNT") 1000
 
 -- the command `serve DISK PORT COUNT`
 abbrev pub serve_app : App
@@ -62,11 +103,7 @@ serve_app = with_rule (with_rule (disk_app (codes "serve")) port_rule) count_rul
 
 -- the argument MINUTES, which is required: a number from 1 to 1440
 abbrev pub minutes_rule : Rule
-minutes_rule = record (new_rule (codes "MINUTES")) { required = true; parser = Some (parser.Signed (pos 1) (pos 1440)) }
-
--- an option of that name, with a text that is not empty
-abbrev pub option_rule : Text → Rule
-option_rule name = record (new_rule name) { long = Some name; value_names = 1; parser = Some parser.NonEmptyString }
+minutes_rule = number_rule (codes "MINUTES") 1440
 
 -- the option `--address IP`
 abbrev pub address_rule : Rule
@@ -75,14 +112,6 @@ address_rule = option_rule (codes "address")
 -- the option `--name HOST`
 abbrev pub name_rule : Rule
 name_rule = option_rule (codes "name")
-
--- the command `web DISK PORT MINUTES`
-abbrev pub plain_web_app : App
-plain_web_app = with_rule (with_rule (disk_app (codes "web")) port_rule) minutes_rule
-
--- a flag of that name
-abbrev pub flag_rule : Text → Rule
-flag_rule name = record (new_rule name) { long = Some name; action = Some SetTrue }
 
 -- the flag `--open-boards`
 abbrev pub open_boards_rule : Rule
@@ -96,13 +125,10 @@ names_option_rule = option_rule (codes "names")
 abbrev pub copy_rule : Rule
 copy_rule = option_rule (codes "copy")
 
--- with an address and a name or none
-abbrev pub hosted_web_app : App
-hosted_web_app = with_rule (with_rule plain_web_app address_rule) name_rule
-
--- with the other options and that flag or without
+-- the command `web DISK PORT MINUTES`, with the other options and that flag or without
 abbrev pub web_app : App
-web_app = with_rule (with_rule (with_rule hosted_web_app open_boards_rule) names_option_rule) copy_rule
+web_app = with_rules (disk_app (codes "web"))
+    (port_rule ∷ minutes_rule ∷ address_rule ∷ name_rule ∷ open_boards_rule ∷ names_option_rule ∷ copy_rule ∷ [])
 
 -- the command `rank DISK`
 abbrev pub rank_app : App
@@ -138,7 +164,7 @@ plan_app = with_rule (with_rule (new_app (codes "plan")) config_rule) names_opti
 
 -- the argument NAMES, which is required
 abbrev pub names_rule : Rule
-names_rule = record (new_rule (codes "NAMES")) { required = true }
+names_rule = required_rule (codes "NAMES")
 
 -- the option `--movement NAME`
 abbrev pub movement_rule : Rule
@@ -146,19 +172,19 @@ movement_rule = option_rule (codes "movement")
 
 -- the option `--boards N`: a number from 1 to 36, and 24 where none is given
 abbrev pub boards_rule : Rule
-boards_rule = record (option_rule (codes "boards")) { parser = Some (parser.Signed (pos 1) (pos 36)); defaults = codes "24" ∷ [] }
+boards_rule = record (default_rule (codes "boards") (codes "24")) { parser = Some (parser.Signed (pos 1) (pos 36)) }
 
 -- the option `--scoring NAME`, with `mp` where none is given
 abbrev pub scoring_rule : Rule
-scoring_rule = record (option_rule (codes "scoring")) { defaults = codes "mp" ∷ [] }
+scoring_rule = default_rule (codes "scoring") (codes "mp")
 
 -- the option `--event TEXT`, with `Evening` where none is given
 abbrev pub event_rule : Rule
-event_rule = record (option_rule (codes "event")) { defaults = codes "Evening" ∷ [] }
+event_rule = default_rule (codes "event") (codes "Evening")
 
 -- the option `--site TEXT`, with `Club` where none is given
 abbrev pub site_rule : Rule
-site_rule = record (option_rule (codes "site")) { defaults = codes "Club" ∷ [] }
+site_rule = default_rule (codes "site") (codes "Club")
 
 -- the option `--date DATE`
 abbrev pub date_rule : Rule
@@ -168,14 +194,13 @@ date_rule = option_rule (codes "date")
 abbrev pub seed_rule : Rule
 seed_rule = option_rule (codes "seed")
 
--- the command `draft NAMES`, with what is played
-abbrev pub plain_draft_app : App
-plain_draft_app =
-    with_rule (with_rule (with_rule (with_rule (new_app (codes "draft")) names_rule) movement_rule) boards_rule) scoring_rule
+-- the options of `draft`
+abbrev pub draft_rules : List Rule
+draft_rules = movement_rule ∷ boards_rule ∷ scoring_rule ∷ event_rule ∷ site_rule ∷ date_rule ∷ seed_rule ∷ []
 
--- with its other options or without
+-- the command `draft NAMES`, with those options or without
 abbrev pub draft_app : App
-draft_app = with_rule (with_rule (with_rule (with_rule plain_draft_app event_rule) site_rule) date_rule) seed_rule
+draft_app = with_rules (with_rule (new_app (codes "draft")) names_rule) draft_rules
 
 -- the option `--address URL`
 abbrev pub url_rule : Rule
@@ -190,26 +215,14 @@ abbrev pub slips_app : App
 slips_app =
     with_rule (with_rule (with_rule (with_rule (new_app (codes "slips")) config_rule) names_option_rule) url_rule) text_rule
 
--- the command `evening NAMES DISK PORT MINUTES`
-abbrev pub plain_evening_app : App
-plain_evening_app =
-    with_rule (with_rule (with_rule (with_rule (new_app (codes "evening")) names_rule) disk_rule) port_rule) minutes_rule
-
--- with what is played
-abbrev pub played_evening_app : App
-played_evening_app = with_rule (with_rule (with_rule plain_evening_app movement_rule) boards_rule) scoring_rule
-
--- with the other options of `draft` or without
-abbrev pub wished_evening_app : App
-wished_evening_app = with_rule (with_rule (with_rule (with_rule played_evening_app event_rule) site_rule) date_rule) seed_rule
-
--- and with those of `web` or without
+-- the command `evening NAMES DISK PORT MINUTES`, with the options of `draft` and those of `web` or without
 abbrev pub evening_app : App
-evening_app = with_rule (with_rule (with_rule wished_evening_app address_rule) name_rule) open_boards_rule
+evening_app = with_rules (with_rules (with_rules (new_app (codes "evening"))
+    (names_rule ∷ disk_rule ∷ port_rule ∷ minutes_rule ∷ [])) draft_rules) (address_rule ∷ name_rule ∷ open_boards_rule ∷ [])
 
 -- the argument FILE, which is required
 abbrev pub file_rule : Rule
-file_rule = record (new_rule (codes "FILE")) { required = true }
+file_rule = required_rule (codes "FILE")
 
 -- the flag `--pbn`
 abbrev pub pbn_rule : Rule
@@ -229,7 +242,7 @@ export_app = with_rule (disk_app (codes "export")) rankings_rule
 
 -- the argument DISK2
 abbrev pub second_disk_rule : Rule
-second_disk_rule = record (new_rule (codes "DISK2")) { required = true }
+second_disk_rule = required_rule (codes "DISK2")
 
 -- the command `copy DISK DISK2`
 abbrev pub copy_app : App

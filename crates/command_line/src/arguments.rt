@@ -1,193 +1,206 @@
 //! The arguments of the commands, as they are declared to clap.
-ghost use Rattle.std.specs.Prelude.{◌≡◌, false};
-ghost use Rattle.clap.specs.Words.{rule_of};
-ghost use Rattle.command_line.specs.Words.{board_rule, disk_rule, other_disk_rule, second_disk_rule, config_rule, file_rule, port_rule, count_rule, minutes_rule, address_rule, name_rule, open_boards_rule, copy_rule, html_rule, no_analysis_rule, rankings_rule, pbn_rule};
+ghost use Rattle.command_line.specs.Words.{IsRuled, required_rule, number_rule, flag_rule, option_rule, default_rule, board_rule, disk_rule, other_disk_rule, second_disk_rule, config_rule, file_rule, port_rule, count_rule, minutes_rule, address_rule, name_rule, open_boards_rule, copy_rule, html_rule, no_analysis_rule, rankings_rule, pbn_rule};
 
 use clap::builder::ValueParser;
 use clap::{Arg, ArgAction};
 use std::alloc::Global;
 
+/// An argument that is required.
+pub fn required<'a>(alloc: Global, name: &'a str, help: &'a str) -> Arg<'a>
+    ensures { IsRuled (required_rule name.entry.now) result }
+{
+    Arg::new(alloc, name).help(help).required(true)
+}
+
+/// An argument that is required: a number from 1 to `last`.
+pub fn number<'a>(alloc: Global, name: &'a str, last: u16, help: &'a str) -> Arg<'a>
+    ensures { IsRuled (number_rule name.entry.now last) result }
+{
+    required(alloc, name, help).value_parser(ValueParser::Signed(1, i64::from(last)))
+}
+
+/// A flag.
+pub fn flag<'a>(alloc: Global, name: &'a str, help: &'a str) -> Arg<'a>
+    ensures { IsRuled (flag_rule name.entry.now) result }
+{
+    Arg::new(alloc, name)
+        .long(name)
+        .help(help)
+        .action(ArgAction::SetTrue)
+}
+
+/// An option with a text, which help calls `value`.
+pub fn option<'a>(alloc: Global, name: &'a str, value: &'a str, help: &'a str) -> Arg<'a>
+    ensures { IsRuled (option_rule name.entry.now) result }
+{
+    Arg::new(alloc, name)
+        .long(name)
+        .value_name(value)
+        .help(help)
+        .value_parser(ValueParser::NonEmptyString)
+}
+
+/// An option with a text, which is `default` where none is given.
+pub fn option_or<'a>(
+    alloc: Global,
+    name: &'a str,
+    value: &'a str,
+    help: &'a str,
+    default: &'a str,
+) -> Arg<'a>
+    ensures { IsRuled (default_rule name.entry.now default.entry.now) result }
+{
+    option(alloc, name, value, help).default_value(default)
+}
+
 /// The argument DISK.
 pub fn disk_argument<'a>(alloc: Global) -> Arg<'a>
-    ensures rule { rule_of result ≡ disk_rule }
-    ensures local { result.global ≡ false }
+    ensures { IsRuled disk_rule result }
 {
-    Arg::new(alloc, "DISK")
-        .help("The file that is the disk")
-        .required(true)
+    required(alloc, "DISK", "The file that is the disk")
 }
 
 /// The argument DISK2, which may be left out.
 pub fn other_disk_argument<'a>(alloc: Global) -> Arg<'a>
-    ensures rule { rule_of result ≡ other_disk_rule }
-    ensures local { result.global ≡ false }
+    ensures { IsRuled other_disk_rule result }
 {
     Arg::new(alloc, "DISK2").help("A second disk, to be compared with it")
 }
 
 /// The argument DISK2.
 pub fn second_disk_argument<'a>(alloc: Global) -> Arg<'a>
-    ensures rule { rule_of result ≡ second_disk_rule }
-    ensures local { result.global ≡ false }
+    ensures { IsRuled second_disk_rule result }
 {
-    Arg::new(alloc, "DISK2")
-        .help("The file that is the second disk")
-        .required(true)
+    required(alloc, "DISK2", "The file that is the second disk")
 }
 
 /// The flag `--html`.
 pub fn html_argument<'a>(alloc: Global) -> Arg<'a>
-    ensures rule { rule_of result ≡ html_rule }
-    ensures local { result.global ≡ false }
+    ensures { IsRuled html_rule result }
 {
-    Arg::new(alloc, "html")
-        .long("html")
-        .help("As a page of HTML in place of plain text")
-        .action(ArgAction::SetTrue)
+    flag(alloc, "html", "As a page of HTML in place of plain text")
 }
 
 /// The flag `--no-analysis`.
 pub fn no_analysis_argument<'a>(alloc: Global) -> Arg<'a>
-    ensures rule { rule_of result ≡ no_analysis_rule }
-    ensures local { result.global ≡ false }
+    ensures { IsRuled no_analysis_rule result }
 {
-    Arg::new(alloc, "no-analysis")
-        .long("no-analysis")
-        .help("Without what could be made on each board, which takes a minute or more to find")
-        .action(ArgAction::SetTrue)
+    flag(
+        alloc,
+        "no-analysis",
+        "Without what could be made on each board, which takes a minute or more to find",
+    )
 }
 
 /// The flag `--rankings`.
 pub fn rankings_argument<'a>(alloc: Global) -> Arg<'a>
-    ensures rule { rule_of result ≡ rankings_rule }
-    ensures local { result.global ≡ false }
+    ensures { IsRuled rankings_rule result }
 {
-    Arg::new(alloc, "rankings")
-        .long("rankings")
-        .help("The rankings in place of the plays")
-        .action(ArgAction::SetTrue)
+    flag(alloc, "rankings", "The rankings in place of the plays")
 }
 
 /// The flag `--pbn`.
 pub fn pbn_argument<'a>(alloc: Global) -> Arg<'a>
-    ensures rule { rule_of result ≡ pbn_rule }
-    ensures local { result.global ≡ false }
+    ensures { IsRuled pbn_rule result }
 {
-    Arg::new(alloc, "pbn")
-        .long("pbn")
-        .help("As the file's own games, with tags for them")
-        .action(ArgAction::SetTrue)
+    flag(alloc, "pbn", "As the file's own games, with tags for them")
 }
 
 /// The argument CONFIG.
 pub fn config_argument<'a>(alloc: Global) -> Arg<'a>
-    ensures rule { rule_of result ≡ config_rule }
-    ensures local { result.global ≡ false }
+    ensures { IsRuled config_rule result }
 {
-    Arg::new(alloc, "CONFIG")
-        .help("The file with the configuration")
-        .required(true)
+    required(alloc, "CONFIG", "The file with the configuration")
 }
 
 /// The argument FILE.
 pub fn file_argument<'a>(alloc: Global) -> Arg<'a>
-    ensures rule { rule_of result ≡ file_rule }
-    ensures local { result.global ≡ false }
+    ensures { IsRuled file_rule result }
 {
-    Arg::new(alloc, "FILE")
-        .help("The file with the deals")
-        .required(true)
+    required(alloc, "FILE", "The file with the deals")
 }
 
 /// The argument PORT.
 pub fn port_argument<'a>(alloc: Global) -> Arg<'a>
-    ensures rule { rule_of result ≡ port_rule }
-    ensures local { result.global ≡ false }
+    ensures { IsRuled port_rule result }
 {
-    Arg::new(alloc, "PORT")
-        .help("The port, 1 to 65535")
-        .required(true)
-        .value_parser(clap::value_parser!(u16).range(1..=65535))
+    number(alloc, "PORT", 65535, "The port, 1 to 65535")
 }
 
 /// The argument COUNT.
 pub fn count_argument<'a>(alloc: Global) -> Arg<'a>
-    ensures rule { rule_of result ≡ count_rule }
-    ensures local { result.global ≡ false }
+    ensures { IsRuled count_rule result }
 {
-    Arg::new(alloc, "COUNT")
-        .help("How many connections are served, 1 to 1000")
-        .required(true)
-        .value_parser(clap::value_parser!(u16).range(1..=1000))
+    number(
+        alloc,
+        "COUNT",
+        1000,
+        "How many connections are served, 1 to 1000",
+    )
 }
 
 /// The argument MINUTES.
 pub fn minutes_argument<'a>(alloc: Global) -> Arg<'a>
-    ensures rule { rule_of result ≡ minutes_rule }
-    ensures local { result.global ≡ false }
+    ensures { IsRuled minutes_rule result }
 {
-    Arg::new(alloc, "MINUTES")
-        .help("How many minutes pages are shown, 1 to 1440")
-        .required(true)
-        .value_parser(clap::value_parser!(u16).range(1..=1440))
+    number(
+        alloc,
+        "MINUTES",
+        1440,
+        "How many minutes pages are shown, 1 to 1440",
+    )
 }
 
 /// The option `--address`.
 pub fn address_argument<'a>(alloc: Global) -> Arg<'a>
-    ensures rule { rule_of result ≡ address_rule }
-    ensures local { result.global ≡ false }
+    ensures { IsRuled address_rule result }
 {
-    Arg::new(alloc, "address")
-        .long("address")
-        .value_name("IP")
-        .help("The IPv4 address to listen at, 127.0.0.1 if none is given")
-        .value_parser(ValueParser::NonEmptyString)
+    option(
+        alloc,
+        "address",
+        "IP",
+        "The IPv4 address to listen at, 127.0.0.1 if none is given",
+    )
 }
 
 /// The option `--name`.
 pub fn name_argument<'a>(alloc: Global) -> Arg<'a>
-    ensures rule { rule_of result ≡ name_rule }
-    ensures local { result.global ≡ false }
+    ensures { IsRuled name_rule result }
 {
-    Arg::new(alloc, "name")
-        .long("name")
-        .value_name("HOST")
-        .help("The host's name as browsers write it, the address if none is given")
-        .value_parser(ValueParser::NonEmptyString)
+    option(
+        alloc,
+        "name",
+        "HOST",
+        "The host's name as browsers write it, the address if none is given",
+    )
 }
 
 /// The flag `--open-boards`.
 pub fn open_boards_argument<'a>(alloc: Global) -> Arg<'a>
-    ensures rule { rule_of result ≡ open_boards_rule }
-    ensures local { result.global ≡ false }
+    ensures { IsRuled open_boards_rule result }
 {
-    Arg::new(alloc, "open-boards")
-        .long("open-boards")
-        .help(
-            "Players see what other tables did on the boards that they have finished, from the start",
-        )
-        .action(ArgAction::SetTrue)
+    flag(
+        alloc,
+        "open-boards",
+        "Players see what other tables did on the boards that they have finished, from the start",
+    )
 }
 
 /// The option `--copy`.
 pub fn copy_argument<'a>(alloc: Global) -> Arg<'a>
-    ensures rule { rule_of result ≡ copy_rule }
-    ensures local { result.global ≡ false }
+    ensures { IsRuled copy_rule result }
 {
-    Arg::new(alloc, "copy")
-        .long("copy")
-        .value_name("DISK2")
-        .help("A second file that keeps the same session")
-        .value_parser(ValueParser::NonEmptyString)
+    option(
+        alloc,
+        "copy",
+        "DISK2",
+        "A second file that keeps the same session",
+    )
 }
 
 /// The argument BOARD.
 pub fn board_argument<'a>(alloc: Global) -> Arg<'a>
-    ensures rule { rule_of result ≡ board_rule }
-    ensures local { result.global ≡ false }
+    ensures { IsRuled board_rule result }
 {
-    Arg::new(alloc, "BOARD")
-        .help("The board's number, 1 to 36")
-        .required(true)
-        .value_parser(clap::value_parser!(u8).range(1..=36))
+    number(alloc, "BOARD", 36, "The board's number, 1 to 36")
 }

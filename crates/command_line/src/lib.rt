@@ -9,6 +9,7 @@
 mod arguments;
 mod command;
 mod declaration;
+mod declared;
 mod evening_arguments;
 mod evening_declaration;
 mod evening_read;

@@ -39,25 +39,33 @@ pub fn read_words<'a>(alloc: Global, words: &'a [&'a str]) -> Result<Command<'a>
 fn asked<'a>(matches: &ArgMatches<'a>) -> Option<Command<'a>>
     ensures { IfSome result (IsCommand (subcommand_rows_of matches.now)) }
 {
-    match matches.subcommand()? {
-        ("auction", found) => auction_of(found),
-        ("format", found) => format_of(found),
-        ("script", found) => script_of(found),
-        ("serve", found) => serve_of(found),
-        ("web", found) => web_of(found),
-        ("rank", found) => rank_of(found),
-        ("pbn", found) => pbn_of(found),
-        ("results", found) => results_of(found),
-        ("check", found) => check_of(found),
-        ("plan", found) => plan_of(found),
-        ("correct", found) => correct_of(found),
-        ("draft", found) => draft_of(found),
-        ("slips", found) => slips_of(found),
-        ("evening", found) => evening_of(found),
-        ("makeable", found) => makeable_of(found),
-        ("export", found) => export_of(found),
-        ("copy", found) => copy_of(found),
-        ("version", _) => Some(Command::Version),
+    let (name, found) = matches.subcommand()?;
+    command_of(name, found)
+}
+
+/// The command of that name with its arguments.
+fn command_of<'a>(name: &str, found: &ArgMatches<'a>) -> Option<Command<'a>>
+    ensures { IfSome result (IsNamed name.now (rows_of (found_of found.now))) }
+{
+    match name {
+        "auction" => auction_of(found),
+        "format" => format_of(found),
+        "script" => script_of(found),
+        "serve" => serve_of(found),
+        "web" => web_of(found),
+        "rank" => rank_of(found),
+        "pbn" => pbn_of(found),
+        "results" => results_of(found),
+        "check" => check_of(found),
+        "plan" => plan_of(found),
+        "correct" => correct_of(found),
+        "draft" => draft_of(found),
+        "slips" => slips_of(found),
+        "evening" => evening_of(found),
+        "makeable" => makeable_of(found),
+        "export" => export_of(found),
+        "copy" => copy_of(found),
+        "version" => Some(Command::Version),
         // clap's checks leave no other name. The contract allows the answer of memory refused alone here.
         _ => None,
     }
