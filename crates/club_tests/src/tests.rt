@@ -23,7 +23,7 @@ use table_pages::PageTexts;
 use test_texts::TWO_TABLES;
 
 /// Texts of pages, which none of these tests asks for.
-const TEXTS: PageTexts = PageTexts {
+static TEXTS: PageTexts = PageTexts {
     page: "page",
     style: "style",
     texts_script: "texts",
@@ -132,7 +132,7 @@ fn words_of(alloc: Global, text: &str) -> Result<Vec<&str>, AllocError> {
 
 /// Each command with its words. Numbers are taken from the least to the most, a sign and zeros before them too, and the
 /// options before, between and behind the other words.
-const COMMANDS: [&str; 36] = [
+static COMMANDS: [&str; 36] = [
     "auction 1",
     "auction 36",
     "auction +7",
@@ -173,16 +173,16 @@ const COMMANDS: [&str; 36] = [
 
 #[test]
 fn words_of_commands_are_taken(rt: HostRuntime) -> Result<(), Fail> {
-    for text in COMMANDS {
+    for text in &COMMANDS {
         let words = words_of(rt.alloc(), text)?;
         let is_taken = read_words(rt.alloc(), words.as_slice()).is_ok();
-        expect_eq(&rt, is_taken, true, text);
+        expect_eq(&rt, is_taken, true, *text);
     }
     Ok(())
 }
 
 /// Words, and behind `: ` how what is written of them begins.
-const OTHER_WORDS: [&str; 26] = [
+static OTHER_WORDS: [&str; 26] = [
     "format club.disk: error: the following required arguments were not provided:\n  <CONFIG>\n",
     "rank: error: the following required arguments were not provided:\n  <DISK>\n",
     "auction: error: the following required arguments were not provided:\n  <BOARD>\n",
@@ -211,45 +211,52 @@ const OTHER_WORDS: [&str; 26] = [
     "auction --help: Reads a board's calls from standard input",
 ];
 
+/// Fails where what is written of a row's words does not begin so, or is not written to its end, and once.
+fn expect_usage(rt: &impl Abort, written: &[u8], begins: &str, row: &str) {
+    expect_eq(rt, written.starts_with(begins.as_bytes()), true, row);
+    let end = if begins.starts_with("error") {
+        b"For more information, try '--help'.\n".as_slice()
+    } else {
+        b"Print help\n"
+    };
+    expect_eq(rt, written.ends_with(end), true, row);
+    let (front, back) = written.split_at(written.len() / 2);
+    expect_eq(rt, front == back, false, row);
+}
+
 #[test]
 fn other_words_are_usage(rt: HostRuntime) -> Result<(), Fail> {
-    for row in OTHER_WORDS {
+    for row in &OTHER_WORDS {
         let (text, begins) = row.split_once(": ").ok_or("words and a text")?;
         let words = words_of(rt.alloc(), text)?;
         let mut errors = Vec::new(rt.alloc());
         let (mut input, mut output) = (Broken, Broken);
         let words = words.as_slice();
         let status = status_of_run(&rt, rt.alloc(), words, &mut input, &mut output, &mut errors);
-        expect_eq(&rt, status, 2, row);
-        expect_eq(&rt, errors.starts_with(begins.as_bytes()), true, row);
-        // It is written to its end, and once.
-        let end = if begins.starts_with("error") {
-            b"For more information, try '--help'.\n".as_slice()
-        } else {
-            b"Print help\n"
-        };
-        expect_eq(&rt, errors.ends_with(end), true, row);
-        let (front, back) = errors.split_at(errors.len() / 2);
-        expect_eq(&rt, front == back, false, row);
+        expect_eq(&rt, status, 2, *row);
+        expect_usage(&rt, errors.as_slice(), begins, row);
     }
     Ok(())
 }
 
+/// How the words of the command line are had, the status, and what is written.
+static HAD: [(Result<u8, ErrorKind>, u8, &str); 4] = [
+    (Ok(0), 0, ""),
+    (Err(ErrorKind::OutOfMemory), 3, "no memory\n"),
+    (
+        Err(ErrorKind::InvalidData),
+        2,
+        "a word of the command line is not UTF-8\n",
+    ),
+    (Err(ErrorKind::Uncategorized), 3, "cannot read input\n"),
+];
+
 #[test]
 fn words_that_cannot_be_had_are_named(rt: HostRuntime) {
-    for (outcome, status, line) in [
-        (Ok(0), 0, ""),
-        (Err(ErrorKind::OutOfMemory), 3, "no memory\n"),
-        (
-            Err(ErrorKind::InvalidData),
-            2,
-            "a word of the command line is not UTF-8\n",
-        ),
-        (Err(ErrorKind::Uncategorized), 3, "cannot read input\n"),
-    ] {
+    for (outcome, status, line) in &HAD {
         let mut errors = Vec::new(rt.alloc());
-        expect_eq(&rt, status_of(outcome, &mut errors), status, line);
-        expect_eq(&rt, errors.as_slice(), line.as_bytes(), line);
+        expect_eq(&rt, status_of(*outcome, &mut errors), *status, *line);
+        expect_eq(&rt, errors.as_slice(), line.as_bytes(), *line);
     }
     let mut errors = Vec::new(rt.alloc());
     let status = refuse(WordsFault::Memory, &mut errors);

@@ -1,4 +1,5 @@
-//! Tests of what makes an evening, by public calls alone: drafts of lists of names, plans, and slips.
+//! Tests of what makes an evening, by public calls alone: drafts of lists of names, plans, and slips; and of the pages
+//! that they are laid out on.
 #![tactic(auto)]
 
 #[cfg(test)]

@@ -1,4 +1,5 @@
 //! Small evenings that were written by hand.
 mod draft;
+mod pages;
 mod plan;
 mod slips;

@@ -18,8 +18,6 @@ mod linked;
 mod page;
 mod style;
 mod table;
-#[cfg(test)]
-mod tests;
 mod text;
 
 pub use block::{push_heading, push_paragraph};

@@ -1,11 +1,12 @@
 //! Evenings from lists of names, and their slips. The evening was written by hand from the first words of ChaCha20 under a key of
 //! zeros.
-use super::{expect_eq, expect_run, status_of_run, words_of};
+use super::{expect_eq, expect_run, status_of_run};
 use club_commands::Alarm;
 use std::alloc::Global;
 use std::fs;
 use std::fs::File;
 use std::net::{Net, TcpListener, TcpStream};
+use std::process::Abort;
 use std::random::RandomSource;
 use std::rt::Files;
 use std::test::Fail;
@@ -33,11 +34,9 @@ const CUT: &str = "- - - - - - - - - - - - - - - - - - - - - - - -\n\n";
 
 #[test]
 fn an_evening_is_drafted(rt: HostRuntime) -> Result<(), Fail> {
-    let names = "bridge_club_drafted.names";
-    fs::write(&rt, names, NAMES)?;
-    let words = [
+    static WORDS: [&str; 12] = [
         "draft",
-        names,
+        "bridge_club_drafted.names",
         "--movement",
         "mitchell",
         "--scoring",
@@ -49,32 +48,49 @@ fn an_evening_is_drafted(rt: HostRuntime) -> Result<(), Fail> {
         "--seed",
         ZEROS,
     ];
-    expect_run(&rt, rt.alloc(), &words, "", (0, EVENING, ""));
+    let names = "bridge_club_drafted.names";
+    fs::write(&rt, names, NAMES)?;
+    expect_run(&rt, rt.alloc(), &WORDS, "", (0, EVENING, ""));
     fs::remove_file(&rt, names)?;
     Ok(())
 }
 
+/// What stands for a list that is no list, and what is then said of it.
+static BAD_LISTS: [(&str, &str, &str); 2] = [
+    (
+        "José García & A. Berger\nΆννα\tZoë\n# late\n\nLise Müller & Bob\nA & B\n",
+        "due: a list with the configuration's pairs\nrefused: it has another number of pairs\n",
+        "evening: OtherPairs\n",
+    ),
+    (
+        "A & B\nC\n",
+        "line 2\ndue: two names of 1 to 40 characters, with & or a tab between\nrefused: there is no & and no tab in it\n",
+        "names line 2: OneName\n",
+    ),
+];
+
 #[test]
 fn slips_have_the_names_of_a_list(rt: HostRuntime) -> Result<(), Fail> {
+    static WORDS: [&str; 5] = [
+        "slips",
+        "bridge_club_slips.txt",
+        "--names",
+        "bridge_club_slips.names",
+        "--text",
+    ];
     let (names, config) = ("bridge_club_slips.names", "bridge_club_slips.txt");
     fs::write(&rt, config, EVENING)?;
     fs::write(&rt, names, NAMES)?;
-    let alloc = rt.alloc();
-    let slips = format!(in alloc;
+    let slips = format!(in rt.alloc();
         "{CUT}Director\n\nKey 317 185 654\n{CUT}José García\nPair 1\nTable 1, North\n\nKey 719 978 656\n{CUT}A. Berger\nPair 1\nTable 1, South\n\nKey 783 509 331\n{CUT}Άννα\nPair 2\nSits out in round 1\n\nKey 488 700 093\n{CUT}Zoë\nPair 2\nSits out in round 1\n\nKey 551 775 904\n{CUT}Lise Müller\nPair 3\nTable 1, East\n\nKey 838 229 160\n{CUT}Bob\nPair 3\nTable 1, West\n\nKey 739 548 555\n"
     )?;
-    let words = ["slips", config, "--names", names, "--text"];
-    expect_run(&rt, alloc, &words, "", (0, slips.as_str(), ""));
-    let other =
-        "due: a list with the configuration's pairs\nrefused: it has another number of pairs\n";
-    fs::write(&rt, names, format!(in alloc; "{NAMES}A & B\n")?)?;
-    expect_run(&rt, alloc, &words, "", (3, other, "evening: OtherPairs\n"));
-    fs::write(&rt, names, "A & B\nC\n")?;
-    let line =
-        "line 2\ndue: two names of 1 to 40 characters, with & or a tab between\nrefused: there is no & and no tab in it\n";
-    expect_run(&rt, alloc, &words, "", (3, line, "names line 2: OneName\n"));
+    expect_run(&rt, rt.alloc(), &WORDS, "", (0, slips.as_str(), ""));
+    for (list, output, errors) in &BAD_LISTS {
+        fs::write(&rt, names, list)?;
+        expect_run(&rt, rt.alloc(), &WORDS, "", (3, output, errors));
+    }
     fs::remove_file(&rt, names)?;
-    expect_run(&rt, alloc, &words, "", (3, "", "cannot read input\n"));
+    expect_run(&rt, rt.alloc(), &WORDS, "", (3, "", UNHEARD));
     fs::remove_file(&rt, config)?;
     Ok(())
 }
@@ -108,73 +124,108 @@ fn holds(text: &[u8], part: &str) -> bool {
     !part.is_empty() && text.windows(part.len()).any(|found| found == part)
 }
 
+/// What is said where a list has other pairs than the configuration.
+const OTHER_PAIRS: (u8, &str, &str) = (
+    3,
+    "due: a list with the configuration's pairs\nrefused: it has another number of pairs\n",
+    "evening: OtherPairs\n",
+);
+
+const UNHEARD: &str = "cannot read input\n";
+
+const LIST: &str = "bridge_club_made.names";
+
+const DISK: &str = "bridge_club_made.disk";
+
+const CONFIG: &str = "bridge_club_made.disk.txt";
+
+const SLIPS: &str = "bridge_club_made.disk.slips.html";
+
+/// The words of an evening that is made. No computer has this address, so that nobody listens once all is made.
+static EVENING_WORDS: [&str; 17] = [
+    "evening",
+    LIST,
+    DISK,
+    "4000",
+    "1",
+    "--address",
+    "192.0.2.1",
+    "--movement",
+    "mitchell",
+    "--scoring",
+    "imp",
+    "--event",
+    "Club-Night",
+    "--date",
+    "2026.03.14",
+    "--seed",
+    ZEROS,
+];
+
+static RESULTS_WORDS: [&str; 4] = ["results", DISK, "--names", LIST];
+
+static PLAN_WORDS: [&str; 4] = ["plan", CONFIG, "--names", LIST];
+
+static WEB_WORDS: [&str; 6] = ["web", DISK, "4000", "1", "--names", LIST];
+
+/// What the slips have.
+static SLIP_PARTS: [&str; 3] = ["Άννα", "488 700 093", "http://192.0.2.1:4000"];
+
+/// What the results have.
+static RESULT_PARTS: [&str; 2] = [
+    "\nPair 2: Άννα and Zoë\n",
+    "  José García and A. Berger                             ",
+];
+
+/// Fails where a text lacks one of these parts.
+fn expect_parts(rt: &impl Abort, text: &[u8], parts: &[&str]) {
+    for part in parts {
+        expect_eq(rt, holds(text, part), true, *part);
+    }
+}
+
+/// The evening of a list is made: its disk, its configuration and its slips.
+fn expect_made(rt: &HostRuntime) -> Result<(), Fail> {
+    let due = (3, "formatted\n", UNHEARD);
+    expect_run(rt, rt.alloc(), &EVENING_WORDS, "", due);
+    let config = fs::read(rt, CONFIG)?;
+    expect_eq(rt, config.as_slice(), EVENING.as_bytes(), CONFIG);
+    let slips = fs::read(rt, SLIPS)?;
+    expect_parts(rt, slips.as_slice(), &SLIP_PARTS);
+    Ok(())
+}
+
+/// The session that stands is gone on with, and its results and its plan have the names of the list.
+fn expect_gone_on_with(rt: &HostRuntime) -> Result<(), Fail> {
+    expect_run(rt, rt.alloc(), &EVENING_WORDS, "", (3, "", UNHEARD));
+    let page = written_by(rt, rt.alloc(), &RESULTS_WORDS)?;
+    expect_parts(rt, page.as_slice(), &RESULT_PARTS);
+    let plan = written_by(rt, rt.alloc(), &PLAN_WORDS)?;
+    let has_names = holds(plan.as_slice(), "\nPair 2: Άννα and Zoë\n");
+    expect_eq(rt, has_names, true, "plan");
+    Ok(())
+}
+
+/// It is gone on with where the list has other pairs too, and nothing is made; others refuse that list.
+fn expect_other_pairs(rt: &HostRuntime) -> Result<(), Fail> {
+    let names = format!(in rt.alloc(); "{NAMES}A & B\n")?;
+    fs::write(rt, LIST, names)?;
+    expect_run(rt, rt.alloc(), &RESULTS_WORDS, "", OTHER_PAIRS);
+    expect_run(rt, rt.alloc(), &PLAN_WORDS, "", OTHER_PAIRS);
+    expect_run(rt, rt.alloc(), &WEB_WORDS, "", OTHER_PAIRS);
+    expect_run(rt, rt.alloc(), &EVENING_WORDS, "", (3, "", UNHEARD));
+    Ok(())
+}
+
 #[test]
 fn an_evening_is_made_and_gone_on_with(rt: HostRuntime) -> Result<(), Fail> {
-    let (names, disk) = ("bridge_club_made.names", "bridge_club_made.disk");
-    let (config, slips) = (
-        "bridge_club_made.disk.txt",
-        "bridge_club_made.disk.slips.html",
-    );
-    let alloc = rt.alloc();
-    fs::write(&rt, names, NAMES)?;
-    // No computer has this address, so that nobody listens once all is made.
-    let options =
-        "--address 192.0.2.1 --movement mitchell --scoring imp --event Club-Night --date 2026.03.14 --seed";
-    let words = format!(in alloc; "evening {names} {disk} 4000 1 {options} {ZEROS}")?;
-    let words = words_of(alloc, words.as_str())?;
-    let unheard = "cannot read input\n";
-    expect_run(
-        &rt,
-        alloc,
-        words.as_slice(),
-        "",
-        (3, "formatted\n", unheard),
-    );
-    expect_eq(
-        &rt,
-        fs::read(&rt, config)?.as_slice(),
-        EVENING.as_bytes(),
-        config,
-    );
-    let page = fs::read(&rt, slips)?;
-    for part in ["Άννα", "488 700 093", "http://192.0.2.1:4000"] {
-        expect_eq(&rt, holds(page.as_slice(), part), true, part);
-    }
-    // The session that stands is gone on with, and nothing is made, whatever the list is then; others refuse a list of other pairs.
-    expect_run(&rt, alloc, words.as_slice(), "", (3, "", unheard));
-    let results = ["results", disk, "--names", names];
-    let page = written_by(&rt, alloc, &results)?;
-    for part in [
-        "\nPair 2: Άννα and Zoë\n",
-        "  José García and A. Berger                             ",
-    ] {
-        expect_eq(&rt, holds(page.as_slice(), part), true, part);
-    }
-    let plan = ["plan", config, "--names", names];
-    let text = written_by(&rt, alloc, &plan)?;
-    expect_eq(
-        &rt,
-        holds(text.as_slice(), "\nPair 2: Άννα and Zoë\n"),
-        true,
-        "plan",
-    );
-    fs::write(&rt, names, format!(in alloc; "{NAMES}A & B\n")?)?;
-    let other =
-        "due: a list with the configuration's pairs\nrefused: it has another number of pairs\n";
-    expect_run(
-        &rt,
-        alloc,
-        &results,
-        "",
-        (3, other, "evening: OtherPairs\n"),
-    );
-    expect_run(&rt, alloc, &plan, "", (3, other, "evening: OtherPairs\n"));
-    let web = ["web", disk, "4000", "1", "--names", names];
-    expect_run(&rt, alloc, &web, "", (3, other, "evening: OtherPairs\n"));
-    expect_run(&rt, alloc, words.as_slice(), "", (3, "", unheard));
-    for file in [names, disk, config, slips] {
+    fs::write(&rt, LIST, NAMES)?;
+    expect_made(&rt)?;
+    expect_gone_on_with(&rt)?;
+    expect_other_pairs(&rt)?;
+    for file in [LIST, DISK, CONFIG, SLIPS] {
         fs::remove_file(&rt, file)?;
     }
-    expect_run(&rt, alloc, &results, "", (3, "", unheard));
+    expect_run(&rt, rt.alloc(), &RESULTS_WORDS, "", (3, "", UNHEARD));
     Ok(())
 }

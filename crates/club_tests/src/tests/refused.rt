@@ -88,7 +88,7 @@ fn expect_refused<
 
 #[test]
 fn a_disk_without_a_session_is_refused(rt: HostRuntime) -> Result<(), Fail> {
-    let (disk, config) = ("bridge_club_none.disk", "bridge_club_none.txt");
+    let disk = "bridge_club_none.disk";
     expect_refused(&rt, rt.alloc(), disk, 3, "disk fault\n");
     fs::write(&rt, disk, vec![in rt.alloc(); 0u8; 1_048_575]?)?;
     expect_refused(&rt, rt.alloc(), disk, 4, "disk too small\n");
@@ -96,35 +96,52 @@ fn a_disk_without_a_session_is_refused(rt: HostRuntime) -> Result<(), Fail> {
     expect_refused(&rt, rt.alloc(), disk, 4, "not formatted\n");
     let others = fs::read(&rt, disk)?.iter().any(|byte| *byte != b'A');
     expect_eq(&rt, others, false, "a file that is no disk");
+    fs::remove_file(&rt, disk)?;
+    Ok(())
+}
 
-    expect_formatted(&rt, rt.alloc(), disk, config)?;
-    let mut bytes = fs::read(&rt, disk)?;
-    // Part 3 of the session, in sector 4.
-    for byte in bytes.iter_mut().skip(4 * 512).take(512) {
-        *byte = 0;
+/// Gives so many bytes of a file, from one on, this value.
+fn change(
+    rt: &HostRuntime,
+    file: &str,
+    from: usize,
+    count: usize,
+    value: u8,
+) -> Result<(), Fail> {
+    let mut bytes = fs::read(rt, file)?;
+    for byte in bytes.iter_mut().skip(from).take(count) {
+        *byte = value;
     }
-    fs::write(&rt, disk, bytes.as_slice())?;
-    expect_refused(&rt, rt.alloc(), disk, 4, "damaged sector 4\n");
+    fs::write(rt, file, bytes)?;
+    Ok(())
+}
+
+// Part 3 of the session, in sector 4, is gone; and then the epoch of the header, in sector 0, is the last one.
+#[test]
+fn a_disk_with_a_damaged_session_is_refused(rt: HostRuntime) -> Result<(), Fail> {
+    let (disk, config) = ("bridge_club_damaged.disk", "bridge_club_damaged.txt");
+    let alloc = rt.alloc();
+    expect_formatted(&rt, alloc, disk, config)?;
+    change(&rt, disk, 4 * 512, 512, 0)?;
+    expect_refused(&rt, alloc, disk, 4, "damaged sector 4\n");
     let due = (4, "no older snapshot\n", "damaged sector 4\n");
-    expect_run(&rt, rt.alloc(), &["check", disk], "", due);
-    // The epoch of the header, in sector 0.
-    for byte in bytes.iter_mut().skip(4).take(8) {
-        *byte = 0xff;
-    }
-    fs::write(&rt, disk, bytes.as_slice())?;
-    expect_refused(&rt, rt.alloc(), disk, 3, "epochs spent\n");
+    expect_run(&rt, alloc, &["check", disk], "", due);
+    change(&rt, disk, 4, 8, 0xff)?;
+    expect_refused(&rt, alloc, disk, 3, "epochs spent\n");
     let due = (4, "", "damaged sector 1\n");
-    expect_run(&rt, rt.alloc(), &["results", disk], "", due);
-    let missing = "missing_folder/bridge_club.disk";
-    expect_run(
-        &rt,
-        rt.alloc(),
-        &["format", missing, config],
-        "",
-        (3, "", "disk fault\n"),
-    );
+    expect_run(&rt, alloc, &["results", disk], "", due);
     fs::remove_file(&rt, config)?;
     fs::remove_file(&rt, disk)?;
+    Ok(())
+}
+
+#[test]
+fn a_disk_in_a_missing_folder_is_refused(rt: HostRuntime) -> Result<(), Fail> {
+    let (disk, config) = ("missing_folder/bridge_club.disk", "bridge_club_missing.txt");
+    fs::write(&rt, config, TWO_TABLES)?;
+    let words = ["format", disk, config];
+    expect_run(&rt, rt.alloc(), &words, "", (3, "", "disk fault\n"));
+    fs::remove_file(&rt, config)?;
     Ok(())
 }
 
@@ -191,11 +208,7 @@ fn a_damaged_record_is_named(rt: HostRuntime) -> Result<(), Fail> {
     expect_formatted(&rt, alloc, disk, config)?;
     let due = (0, "OK\n", "");
     expect_run(&rt, alloc, &["script", disk], "VOID 100 1 1 1\n", due);
-    let mut bytes = fs::read(&rt, disk)?;
-    for byte in bytes.iter_mut().skip(1024 * 512 + 18).take(1) {
-        *byte = 0xff;
-    }
-    fs::write(&rt, disk, bytes)?;
+    change(&rt, disk, 1024 * 512 + 18, 1, 0xff)?;
     expect_refused(&rt, alloc, disk, 4, "damaged sector 1024\n");
     let due = (4, OLDER, "damaged sector 1024\n");
     expect_run(&rt, alloc, &["check", disk], "", due);
@@ -207,50 +220,50 @@ fn a_damaged_record_is_named(rt: HostRuntime) -> Result<(), Fail> {
     Ok(())
 }
 
+/// Commands whose output fails.
+static WRITERS: [&[&str]; 9] = [
+    &["auction", "1"],
+    &["plan", "bridge_club_output.txt"],
+    &["format", "bridge_club_output.disk", "bridge_club_output.txt"],
+    &["check", "bridge_club_output.disk"],
+    &["rank", "bridge_club_output.disk"],
+    &["pbn", "bridge_club_output.disk"],
+    &["results", "bridge_club_output.disk"],
+    &["results", "bridge_club_output.disk", "--html"],
+    &["script", "bridge_club_output.disk"],
+];
+
 #[test]
 fn streams_that_fail_are_named(rt: HostRuntime) -> Result<(), Fail> {
-    let (disk, config) = ("bridge_club_output.disk", "bridge_club_output.txt");
-    fs::write(&rt, config, TWO_TABLES)?;
-    let rows: [&[&str]; 9] = [
-        &["auction", "1"],
-        &["plan", config],
-        &["format", disk, config],
-        &["check", disk],
-        &["rank", disk],
-        &["pbn", disk],
-        &["results", disk],
-        &["results", disk, "--html"],
-        &["script", disk],
-    ];
-    for words in rows {
+    fs::write(&rt, "bridge_club_output.txt", TWO_TABLES)?;
+    let line = b"cannot write output\n".as_slice();
+    for words in &WRITERS {
+        let words = *words;
         let mut input: &[u8] = b"1C\n";
         let mut errors = Vec::new(rt.alloc());
         let status = status_of_run(&rt, rt.alloc(), words, &mut input, &mut Broken, &mut errors);
         expect_eq(&rt, status, 3, words);
-        expect_eq(
-            &rt,
-            errors.as_slice(),
-            b"cannot write output\n".as_slice(),
-            words,
-        );
+        expect_eq(&rt, errors.as_slice(), line, words);
     }
-    fs::remove_file(&rt, config)?;
-    fs::remove_file(&rt, disk)?;
+    fs::remove_file(&rt, "bridge_club_output.txt")?;
+    fs::remove_file(&rt, "bridge_club_output.disk")?;
     Ok(())
 }
+
+/// Commands whose input fails.
+static READERS: [&[&str]; 2] = [&["auction", "1"], &["script", "bridge_club_input.disk"]];
 
 #[test]
 fn an_input_that_fails_is_named(rt: HostRuntime) -> Result<(), Fail> {
     let (disk, config) = ("bridge_club_input.disk", "bridge_club_input.txt");
     expect_formatted(&rt, rt.alloc(), disk, config)?;
-    let rows: [&[&str]; 2] = [&["auction", "1"], &["script", disk]];
-    for words in rows {
-        let mut input = Broken;
+    let line = b"cannot read input\n".as_slice();
+    for words in &READERS {
+        let words = *words;
         let mut output = Vec::new(rt.alloc());
         let mut errors = Vec::new(rt.alloc());
-        let status = status_of_run(&rt, rt.alloc(), words, &mut input, &mut output, &mut errors);
+        let status = status_of_run(&rt, rt.alloc(), words, &mut Broken, &mut output, &mut errors);
         expect_eq(&rt, status, 3, words);
-        let line = b"cannot read input\n".as_slice();
         expect_eq(&rt, errors.as_slice(), line, words);
     }
     fs::remove_file(&rt, config)?;

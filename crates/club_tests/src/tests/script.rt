@@ -88,23 +88,27 @@ fn serve_failing<W: Write>(
     }
 }
 
+/// A run whose disk fails.
+const FAULT: Run = Err(RunFault::Store(StoreFault::Disk));
+
+/// How many calls of the disk pass, how the run ends, and what is replied.
+static RUNS: [(u64, Run, &str); 4] = [
+    (24, FAULT, ""),
+    (25, FAULT, "ERR 40 Disk\nERR 40 Disk\n"),
+    (26, FAULT, "ERR 40 Disk\nERR 40 Disk\n"),
+    (27, Ok(()), "OK\nOK\n"),
+];
+
 // The disk is opened by its first 25 calls; a void board is written by the next, and confirmed by the one after.
 #[test]
 fn a_store_that_fails_ends_the_script(rt: HostRuntime) -> Result<(), Fail> {
-    let alloc = rt.alloc();
-    let fault = Err(RunFault::Store(StoreFault::Disk));
-    for (passes, due, replies) in [
-        (24, fault, ""),
-        (25, fault, "ERR 40 Disk\nERR 40 Disk\n"),
-        (26, fault, "ERR 40 Disk\nERR 40 Disk\n"),
-        (27, Ok(()), "OK\nOK\n"),
-    ] {
-        let mut output = Vec::new(alloc);
-        let result = serve_failing(&rt, alloc, passes, &mut output)?;
-        expect_eq(&rt, result, due, passes);
-        expect_eq(&rt, output.as_slice(), replies.as_bytes(), passes);
+    for (passes, due, replies) in &RUNS {
+        let mut output = Vec::new(rt.alloc());
+        let result = serve_failing(&rt, rt.alloc(), *passes, &mut output)?;
+        expect_eq(&rt, result, *due, *passes);
+        expect_eq(&rt, output.as_slice(), replies.as_bytes(), *passes);
     }
-    let result = serve_failing(&rt, alloc, 25, &mut Broken)?;
-    expect_eq(&rt, result, fault, "a store and a writer that fail");
+    let result = serve_failing(&rt, rt.alloc(), 25, &mut Broken)?;
+    expect_eq(&rt, result, FAULT, "a store and a writer that fail");
     Ok(())
 }

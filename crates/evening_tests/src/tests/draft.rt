@@ -76,7 +76,7 @@ fn three_pairs_of_a_mitchell(rt: HostRuntime) {
 
 #[test]
 fn names_in_ascii(rt: HostRuntime) {
-    let rows = [
+    static ROWS: [(&str, &str); 8] = [
         ("Jørgen Åse", "Jorgen.Ase"),
         ("Łukasz Żółć", "Lukasz.Zolc"),
         ("ÆGIR Þór Straußenberger", "AEGIR.Thor.Straussenberg"),
@@ -89,9 +89,9 @@ fn names_in_ascii(rt: HostRuntime) {
             "Wolfeschlegelsteinhausen",
         ),
     ];
-    for (name, ascii) in rows {
+    for (name, ascii) in &ROWS {
         let brought = ascii_name(name);
-        assert!(&rt; brought.as_str() == ascii, "{brought}");
+        assert!(&rt; brought.as_str() == *ascii, "{brought}");
     }
     assert!(&rt; player_name("李小龍", 24, false).as_str() == "Player24b");
     assert!(&rt; player_name("李 Li", 24, false).as_str() == "Li");
@@ -116,20 +116,21 @@ fn words_of(list: &[u8]) -> ArrayVec<u8, 256> {
 
 #[test]
 fn lists_with_a_fault(rt: HostRuntime) {
-    let rows = [
-        (b"A & B\nC\n".as_slice(), "line 2\n"),
-        (b"A & B\nC & D\n".as_slice(), "line 3\n"),
-        (b"A & B\nC & \n".as_slice(), "line 2\n"),
-        (b"A & B & C\n".as_slice(), "line 1\n"),
-        (b"A & B\0\n".as_slice(), "line 1\n"),
-        (b"A & \xFF\n".as_slice(), "line 1\n"),
-        ("A & \u{202E}B\n".as_bytes(), "line 1\n"),
+    static ROWS: [(&[u8], &str); 8] = [
+        (b"A & B\nC\n", "line 2\n"),
+        (b"A & B\nC & D\n", "line 3\n"),
+        (b"A & B\nC & \n", "line 2\n"),
+        (b"A & B & C\n", "line 1\n"),
+        (b"A & B\0\n", "line 1\n"),
+        (b"A & \xFF\n", "line 1\n"),
+        // U+202E
+        (b"A & \xE2\x80\xAEB\n", "line 1\n"),
         (
-            b"A & 12345678901234567890123456789012345678901\n".as_slice(),
+            b"A & 12345678901234567890123456789012345678901\n",
             "line 1\n",
         ),
     ];
-    for (list, line) in rows {
+    for (list, line) in &ROWS {
         let words = words_of(list);
         assert!(&rt;
             words.starts_with(line.as_bytes()),
@@ -178,7 +179,7 @@ fn evenings_of_each_number_of_pairs(rt: HostRuntime) {
 
 #[test]
 fn dates_of_days(rt: HostRuntime) {
-    let rows = [
+    static ROWS: [(i64, Option<&str>); 6] = [
         (0, Some("1970.01.01")),
         (951_782_400, Some("2000.02.29")),
         (1_773_532_799, Some("2026.03.14")),
@@ -186,10 +187,10 @@ fn dates_of_days(rt: HostRuntime) {
         (253_402_300_799, Some("9999.12.31")),
         (253_402_300_800, None),
     ];
-    for (seconds, date) in rows {
-        let told = date_at(seconds);
+    for (seconds, date) in &ROWS {
+        let told = date_at(*seconds);
         assert!(&rt;
-            told.as_ref().map(|text| text.as_str()) == date,
+            told.as_ref().map(|text| text.as_str()) == *date,
             "{seconds}"
         );
     }

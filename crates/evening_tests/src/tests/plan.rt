@@ -73,6 +73,13 @@ fn pair(first: &str, second: &str) -> PairNames {
     pair
 }
 
+/// The headings of pairs whose names are as people write them.
+static HEADINGS: [&str; 3] = [
+    "\nPair 1: José García and Zoë\n",
+    "\nPair 2: 李小龍 and Dan\n",
+    "\nPair 3: Άννα and O'Brien\n",
+];
+
 #[test]
 fn a_small_evening_with_names_as_people_write_them(rt: HostRuntime) {
     let names = [
@@ -85,12 +92,8 @@ fn a_small_evening_with_names_as_people_write_them(rt: HostRuntime) {
         let _ = write_plan_with(&config, Some(names.as_slice()), &mut written);
     }
     let written = str::from_utf8(written.as_slice()).unwrap_or("");
-    for heading in [
-        "\nPair 1: José García and Zoë\n",
-        "\nPair 2: 李小龍 and Dan\n",
-        "\nPair 3: Άννα and O'Brien\n",
-    ] {
-        assert!(&rt; written.contains(heading), "{written}");
+    for heading in &HEADINGS {
+        assert!(&rt; written.contains(*heading), "{written}");
     }
     assert!(&rt; !written.contains("Ann "), "{written}");
 }
@@ -120,46 +123,52 @@ fn expect_refused(rt: &impl Abort, number: usize, line: &str, reason: &str) {
     );
 }
 
+/// Lines that stand in place of one, and why they are refused.
+static OF_ANOTHER_FORM: [(usize, &str, &str); 4] = [
+    (
+        1,
+        "EVENT aaaaaaaaaaaaaaaaaaaaaaaaaaaaaaaaaaaaaaaaaaaaaaaaaaaaaaaaaaaaaaaaaaaaaaaaaaaaaaaaaaaaaaaaaaaaaaaaaaaaaaaaaaaaaaaaaaaaaaaaaaa",
+        "the line has more than 128 characters",
+    ),
+    (
+        2,
+        "SITE Town ",
+        "word 3 is empty: one space stands between two words, and none at the end",
+    ),
+    (6, "MITCHEL 7", "word 1 is not MITCHELL or MOVEMENT"),
+    (11, "PAIR 1 Ann 10011 Bob 10012", "word 1 is not DIRECTOR"),
+];
+
 #[test]
 fn lines_of_another_form(rt: HostRuntime) {
-    let long =
-        "EVENT aaaaaaaaaaaaaaaaaaaaaaaaaaaaaaaaaaaaaaaaaaaaaaaaaaaaaaaaaaaaaaaaaaaaaaaaaaaaaaaaaaaaaaaaaaaaaaaaaaaaaaaaaaaaaaaaaaaaaaaaaaa";
-    let rows = [
-        (1, long, "the line has more than 128 characters"),
-        (
-            2,
-            "SITE Town ",
-            "word 3 is empty: one space stands between two words, and none at the end",
-        ),
-        (6, "MITCHEL 7", "word 1 is not MITCHELL or MOVEMENT"),
-        (11, "PAIR 1 Ann 10011 Bob 10012", "word 1 is not DIRECTOR"),
-    ];
-    for (number, line, reason) in rows {
-        expect_refused(&rt, number, line, reason);
+    for (number, line, reason) in &OF_ANOTHER_FORM {
+        expect_refused(&rt, *number, line, reason);
     }
 }
 
+/// Lines with a number that is too large, or not the one that is next.
+static OF_OTHER_NUMBERS: [(usize, &str, &str); 4] = [
+    (6, "MOVEMENT 2 2 13 3 3", "word 4 is not from 1 to 12"),
+    (
+        7,
+        "ROW 1 2 1 2 2",
+        "its round and table are not the ones that are next",
+    ),
+    (
+        7,
+        "ROW 1 1 1 4 2",
+        "a pair's number is above the number of pairs in line 6",
+    ),
+    (
+        7,
+        "ROW 1 1 1 2 3",
+        "the set is 0, or above the number of sets in line 6",
+    ),
+];
+
 #[test]
 fn numbers_that_cannot_stand(rt: HostRuntime) {
-    let rows = [
-        (6, "MOVEMENT 2 2 13 3 3", "word 4 is not from 1 to 12"),
-        (
-            7,
-            "ROW 1 2 1 2 2",
-            "its round and table are not the ones that are next",
-        ),
-        (
-            7,
-            "ROW 1 1 1 4 2",
-            "a pair's number is above the number of pairs in line 6",
-        ),
-        (
-            7,
-            "ROW 1 1 1 2 3",
-            "the set is 0, or above the number of sets in line 6",
-        ),
-    ];
-    for (number, line, reason) in rows {
-        expect_refused(&rt, number, line, reason);
+    for (number, line, reason) in &OF_OTHER_NUMBERS {
+        expect_refused(&rt, *number, line, reason);
     }
 }

@@ -9,7 +9,7 @@ use bridge_cards::{Card, Side};
 use bridge_ranking::PlayResult;
 use bridge_results::{BoardLine, CardLine, Frequency, Results, TablePlay, frequencies};
 use bridge_session::{Action, Average, Field, Session, TrickCount};
-use script::{DIRECTOR, IMPS, MATCHPOINTS, act, board, dealt, play, round_1, round_2, round_3};
+use script::{DIRECTOR, IMPS, MATCHPOINTS, act, board, dealt, play, played, round_1, round_2};
 use std::process::Abort;
 use std::str::FromStr;
 use std::test::Fail;
@@ -40,7 +40,10 @@ fn expect_rows(rt: &impl Abort, lines: &[BoardLine], rows: &[Row]) {
     }
 }
 
-fn expect_frequencies(rt: &impl Abort, found: &[Frequency], due: &[(i32, u8, i32, i32)]) {
+/// Of a line of frequencies: the score, how often it was, and what each side gained.
+type Often = (i32, u8, i32, i32);
+
+fn expect_frequencies(rt: &impl Abort, found: &[Frequency], due: &[Often]) {
     assert_eq!(rt; found.len(), due.len());
     for (found, due) in found.iter().zip(due) {
         assert_eq!(rt;
@@ -71,29 +74,26 @@ fn expect_card(rt: &impl Abort, side: Side, lines: &[CardLine], rows: &[Own]) {
 
 #[test]
 fn three_rounds_by_matchpoints(rt: HostRuntime) -> Result<(), Fail> {
-    let mut session = dealt(&rt, rt.alloc(), MATCHPOINTS)?;
-    round_1(&rt, &mut session);
-    round_2(&rt, &mut session);
-    round_3(&rt, &mut session);
-    let results = Results::new(&session);
-    let lines = results.traveller(board(&rt, 1));
-    let rows = [
+    static LINES: [Row; 3] = [
         (2, 3, 3, 5, Some(450), Some((40, 0))),
         (1, 1, 1, 4, Some(420), Some((20, 20))),
         (3, 2, 2, 6, Some(300), Some((0, 40))),
     ];
-    expect_rows(&rt, &lines, &rows);
-    let leads = lines.iter().filter(|line| line.play.lead.is_some()).count();
-    assert_eq!(rt; leads, 1);
-    let rows = [(450, 1, 40, 0), (420, 1, 20, 20), (300, 1, 0, 40)];
-    expect_frequencies(&rt, &frequencies(&lines), &rows);
+    static OFTEN: [Often; 3] = [(450, 1, 40, 0), (420, 1, 20, 20), (300, 1, 0, 40)];
     // Pair 6 has 12.0 of 12.0.
-    let rows = [
+    static CARD: [Own; 3] = [
         (3, 1, 3, Some(670), 40, 40),
         (2, 2, 1, Some(100), 40, 40),
         (1, 3, 2, Some(-300), 40, 40),
     ];
-    expect_card(&rt, Side::EastWest, &results.score_card(6), &rows);
+    let session = played(&rt, rt.alloc(), MATCHPOINTS)?;
+    let results = Results::new(&session);
+    let lines = results.traveller(board(&rt, 1));
+    expect_rows(&rt, &lines, &LINES);
+    let leads = lines.iter().filter(|line| line.play.lead.is_some()).count();
+    assert_eq!(rt; leads, 1);
+    expect_frequencies(&rt, &frequencies(&lines), &OFTEN);
+    expect_card(&rt, Side::EastWest, &results.score_card(6), &CARD);
     let ranking = results.ranking(Field::Second);
     assert_eq!(rt; ranking.map(|lines| lines.len()), Some(3));
     Ok(())
@@ -101,46 +101,47 @@ fn three_rounds_by_matchpoints(rt: HostRuntime) -> Result<(), Fail> {
 
 #[test]
 fn three_rounds_by_imps(rt: HostRuntime) -> Result<(), Fail> {
-    let mut session = dealt(&rt, rt.alloc(), IMPS)?;
-    round_1(&rt, &mut session);
-    round_2(&rt, &mut session);
-    round_3(&rt, &mut session);
-    let results = Results::new(&session);
     // 150 points are 4 IMPs, 120 are 3, 30 are 1.
-    let rows = [(450, 1, 5, -5), (420, 1, 2, -2), (300, 1, -7, 7)];
-    expect_frequencies(&rt, &frequencies(&results.traveller(board(&rt, 1))), &rows);
+    static OFTEN: [Often; 3] = [(450, 1, 5, -5), (420, 1, 2, -2), (300, 1, -7, 7)];
     // Pair 2 has 33.
-    let rows = [
+    static CARD: [Own; 3] = [
         (2, 1, 5, Some(600), 24, 40),
         (3, 2, 4, Some(200), 16, 40),
         (1, 3, 6, Some(300), -7, 40),
     ];
-    expect_card(&rt, Side::NorthSouth, &results.score_card(2), &rows);
+    let session = played(&rt, rt.alloc(), IMPS)?;
+    let results = Results::new(&session);
+    let lines = results.traveller(board(&rt, 1));
+    expect_frequencies(&rt, &frequencies(&lines), &OFTEN);
+    expect_card(&rt, Side::NorthSouth, &results.score_card(2), &CARD);
     Ok(())
+}
+
+/// The director rules that the declarer of the board of table 1 in round 1 took eleven tricks.
+fn rule(rt: &impl Abort, session: &mut Session) {
+    let play = play(rt, 1, 1);
+    let tricks = TrickCount::new(11).unwrap();
+    let ruled = Action::Tricks {
+        key: DIRECTOR,
+        play,
+        tricks,
+    };
+    act(rt, session, ruled);
 }
 
 #[test]
 fn equal_scores_stand_by_round(rt: HostRuntime) -> Result<(), Fail> {
-    let mut session = dealt(&rt, rt.alloc(), MATCHPOINTS)?;
-    round_1(&rt, &mut session);
-    round_2(&rt, &mut session);
-    let (play, tricks) = (play(&rt, 1, 1), TrickCount::new(11).unwrap());
-    act(
-        &rt,
-        &mut session,
-        Action::Tricks {
-            key: DIRECTOR,
-            play,
-            tricks,
-        },
-    );
-    let results = Results::new(&session);
-    let lines = results.traveller(board(&rt, 1));
-    let rows = [
+    static LINES: [Row; 2] = [
         (1, 1, 1, 4, Some(450), Some((10, 10))),
         (2, 3, 3, 5, Some(450), Some((10, 10))),
     ];
-    expect_rows(&rt, &lines, &rows);
+    let mut session = dealt(&rt, rt.alloc(), MATCHPOINTS)?;
+    round_1(&rt, &mut session);
+    round_2(&rt, &mut session);
+    rule(&rt, &mut session);
+    let results = Results::new(&session);
+    let lines = results.traveller(board(&rt, 1));
+    expect_rows(&rt, &lines, &LINES);
     expect_frequencies(&rt, &frequencies(&lines), &[(450, 2, 10, 10)]);
     Ok(())
 }
@@ -170,35 +171,39 @@ fn void(rt: &impl Abort, session: &mut Session) {
     );
 }
 
+/// Board 2 once its play at table 1 in round 2 is adjusted: averages are of what is available.
+static ADJUSTED: [Row; 3] = [
+    (1, 2, 2, 5, Some(600), Some((20, 0))),
+    (3, 3, 3, 4, Some(-90), Some((0, 20))),
+    (2, 1, 1, 6, None, Some((12, 8))),
+];
+
+/// And once its play in round 1 is void too, so that one score is left.
+static VOID: [Row; 3] = [
+    (3, 3, 3, 4, Some(-90), Some((0, 0))),
+    (2, 1, 1, 6, None, Some((0, 0))),
+    (1, 2, 2, 5, None, None),
+];
+
+/// The card of pair 1 then.
+static CARD_OF_PAIR_1: [Own; 3] = [
+    (1, 1, 4, Some(420), 20, 40),
+    (2, 2, 6, None, 0, 0),
+    (3, 3, 5, Some(110), 20, 40),
+];
+
 // Adjusted plays stand below all scores, void ones last. Averages are of what is available: 20 where two scores are left.
 #[test]
 fn adjusted_and_void_plays(rt: HostRuntime) -> Result<(), Fail> {
-    let mut session = dealt(&rt, rt.alloc(), MATCHPOINTS)?;
-    round_1(&rt, &mut session);
-    round_2(&rt, &mut session);
-    round_3(&rt, &mut session);
+    let mut session = played(&rt, rt.alloc(), MATCHPOINTS)?;
     adjust(&rt, &mut session);
-    let results = Results::new(&session);
-    let rows = [
-        (1, 2, 2, 5, Some(600), Some((20, 0))),
-        (3, 3, 3, 4, Some(-90), Some((0, 20))),
-        (2, 1, 1, 6, None, Some((12, 8))),
-    ];
-    expect_rows(&rt, &results.traveller(board(&rt, 2)), &rows);
+    let board = board(&rt, 2);
+    let lines = Results::new(&session).traveller(board);
+    expect_rows(&rt, &lines, &ADJUSTED);
     void(&rt, &mut session);
     let results = Results::new(&session);
-    let rows = [
-        (3, 3, 3, 4, Some(-90), Some((0, 0))),
-        (2, 1, 1, 6, None, Some((0, 0))),
-        (1, 2, 2, 5, None, None),
-    ];
-    expect_rows(&rt, &results.traveller(board(&rt, 2)), &rows);
-    let rows = [
-        (1, 1, 4, Some(420), 20, 40),
-        (2, 2, 6, None, 0, 0),
-        (3, 3, 5, Some(110), 20, 40),
-    ];
-    expect_card(&rt, Side::NorthSouth, &results.score_card(1), &rows);
+    expect_rows(&rt, &results.traveller(board), &VOID);
+    expect_card(&rt, Side::NorthSouth, &results.score_card(1), &CARD_OF_PAIR_1);
     assert_eq!(rt; results.score_card(7).len(), 0);
     Ok(())
 }

@@ -9,7 +9,7 @@ use bridge_cards::{BoardNumber, Seat, Side, Suit, Vulnerability, dealer, vulnera
 use std::test::Fail;
 
 /// The table of Law 2, for boards 1 to 16, after which it repeats.
-const BOARDS: [(u8, Seat, Vulnerability); 16] = [
+static BOARDS: [(u8, Seat, Vulnerability); 16] = [
     (1, Seat::North, Vulnerability::Neither),
     (2, Seat::East, Vulnerability::NorthSouth),
     (3, Seat::South, Vulnerability::EastWest),
@@ -30,17 +30,18 @@ const BOARDS: [(u8, Seat, Vulnerability); 16] = [
 
 #[test]
 fn lists_of_all_stand_in_order(rt: HostRuntime) {
-    for (number, suit) in (0..4).zip(Suit::ALL) {
-        expect_eq(&rt, suit.number(), number, suit);
+    for index in 0..4 {
+        let (suit, seat) = (Suit::ALL[index], Seat::ALL[index]);
+        expect_eq(&rt, usize::from(suit.number()), index, suit);
+        expect_eq(&rt, usize::from(seat.number()), index, seat);
     }
-    for (number, seat) in (0..4).zip(Seat::ALL) {
-        expect_eq(&rt, seat.number(), number, seat);
+    for index in 0..5 {
+        let denomination = Denomination::ALL[index];
+        expect_eq(&rt, usize::from(denomination.number()), index, denomination);
     }
-    for (number, denomination) in (0..5).zip(Denomination::ALL) {
-        expect_eq(&rt, denomination.number(), number, denomination);
-    }
-    for (seat, side) in Seat::ALL.into_iter().zip(Side::ALL) {
-        expect_eq(&rt, seat.side(), side, seat);
+    for index in 0..2 {
+        let seat = Seat::ALL[index];
+        expect_eq(&rt, seat.side(), Side::ALL[index], seat);
     }
 }
 

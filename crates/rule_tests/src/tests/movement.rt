@@ -9,7 +9,7 @@ use bridge_movement::{Movement, MovementRefused, Place, Row, Shape};
 use twin::mitchell_rows;
 
 /// A fair movement of two tables: round, table, North and South, East and West, and set of each row.
-const GOOD: [[u8; 5]; 4] = [
+static GOOD: [[u8; 5]; 4] = [
     [1, 1, 1, 3, 1],
     [1, 2, 2, 4, 2],
     [2, 1, 1, 4, 3],
@@ -25,7 +25,7 @@ const TWO_TABLE_SHAPE: Shape = Shape {
 };
 
 /// What stands for rows of the good movement, counted from 0, and why the rows are then refused.
-const REFUSED: [(&[(usize, [u8; 5])], MovementRefused); 11] = [
+static REFUSED: [(&[(usize, [u8; 5])], MovementRefused); 11] = [
     (&[(1, [2, 1, 2, 4, 2])], MovementRefused::MissingRow(2)),
     (&[(3, [2, 2, 2, 255, 4])], MovementRefused::BadPair(4)),
     (&[(1, [1, 2, 2, 2, 2])], MovementRefused::SamePair(2)),
@@ -112,9 +112,10 @@ fn mitchell_moves_pairs_and_sets(rt: HostRuntime) {
 
 #[test]
 fn rows_at_fault_are_refused(rt: HostRuntime) {
-    for (changes, refused) in REFUSED {
+    for (changes, refused) in REFUSED.as_slice() {
         let rows = changed(changes);
-        expect_eq(&rt, refusal(TWO_TABLE_SHAPE, &rows), Some(refused), rows);
+        let found = refusal(TWO_TABLE_SHAPE, &rows);
+        expect_eq(&rt, found, Some(*refused), rows);
     }
 }
 

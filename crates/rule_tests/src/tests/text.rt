@@ -45,28 +45,33 @@ fn pen_with(room: usize, fails: bool, flush_fails: bool) -> Pen {
     }
 }
 
+/// For how many bytes a pen has room, whether it then fails, whether its flush fails, what it has taken in the end, the error,
+/// and how often it was flushed.
+type Row = (usize, bool, bool, &'static str, Option<ErrorKind>, u32);
+
+static ROWS: [Row; 4] = [
+    (64, false, false, "ERR 30 BadLine\n", None, 1),
+    (5, false, false, "ERR 3", Some(ErrorKind::WriteZero), 0),
+    (5, true, false, "ERR 3", Some(ErrorKind::BrokenPipe), 0),
+    (
+        64,
+        true,
+        true,
+        "ERR 30 BadLine\n",
+        Some(ErrorKind::BrokenPipe),
+        1,
+    ),
+];
+
 #[test]
 fn texts_are_written_whole_or_to_the_first_error(rt: HostRuntime) {
-    let rows = [
-        (64, false, false, "ERR 30 BadLine\n", None, 1),
-        (5, false, false, "ERR 3", Some(ErrorKind::WriteZero), 0),
-        (5, true, false, "ERR 3", Some(ErrorKind::BrokenPipe), 0),
-        (
-            64,
-            true,
-            true,
-            "ERR 30 BadLine\n",
-            Some(ErrorKind::BrokenPipe),
-            1,
-        ),
-    ];
-    for (room, fails, flush_fails, taken, error, flushes) in rows {
-        let mut writer = pen_with(room, fails, flush_fails);
+    for (room, fails, flush_fails, taken, error, flushes) in ROWS.as_slice() {
+        let mut writer = pen_with(*room, *fails, *flush_fails);
         let mut text = ArrayString::<29>::new();
         push_refusal(&mut text, 30, "BadLine");
         let result = write_text(&mut writer, text.as_str().as_bytes());
         assert!(rt; writer.taken.as_slice() == taken.as_bytes());
-        assert!(rt; result.err().map(|error| error.kind()) == error);
-        assert!(rt; writer.flushes == flushes);
+        assert!(rt; result.err().map(|error| error.kind()) == *error);
+        assert!(rt; writer.flushes == *flushes);
     }
 }

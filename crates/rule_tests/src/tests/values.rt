@@ -28,11 +28,8 @@ fn bid(level: u8, denomination: Denomination) -> Result<Bid, OutOfRange> {
 
 /// Each of the values is less than the next.
 fn ascend<T: Ord + Copy + Debug + Drop, const N: usize>(rt: &impl Abort, values: [T; N]) {
-    for (value, next) in values
-        .as_slice()
-        .iter()
-        .zip(values.as_slice().iter().skip(1))
-    {
+    for index in 1..N {
+        let (value, next) = (values[index - 1], values[index]);
         assert!(rt; value < next, "{value:?} {next:?}");
     }
 }
@@ -76,55 +73,55 @@ fn is_key<T: Eq + Hash + Copy + Debug + Drop>(
 }
 
 #[test]
-fn values_are_keys(rt: HostRuntime) -> Result<(), Fail> {
+fn values_of_cards_are_keys(rt: HostRuntime) -> Result<(), Fail> {
     let alloc = rt.alloc();
+    let [two, ace] = [Rank::try_from(2)?, Rank::try_from(14)?];
     is_key(&rt, alloc, Suit::Clubs, Suit::Spades)?;
+    is_key(&rt, alloc, two, ace)?;
+    let [low, high] = [Card::try_from(0)?, Card::try_from(51)?];
+    is_key(&rt, alloc, low, high)?;
+    let none = CardSet::new();
+    is_key(&rt, alloc, none, none.with(low))?;
+    Ok(())
+}
+
+#[test]
+fn values_of_boards_are_keys(rt: HostRuntime) -> Result<(), Fail> {
+    let alloc = rt.alloc();
     is_key(&rt, alloc, Seat::North, Seat::South)?;
     is_key(&rt, alloc, Side::NorthSouth, Side::EastWest)?;
     is_key(&rt, alloc, Vulnerability::Neither, Vulnerability::Both)?;
-    is_key(&rt, alloc, Rank::try_from(2)?, Rank::try_from(14)?)?;
-    is_key(
-        &rt,
-        alloc,
-        BoardNumber::try_from(1)?,
-        BoardNumber::try_from(36)?,
-    )?;
-    is_key(&rt, alloc, Card::try_from(0)?, Card::try_from(51)?)?;
-    is_key(
-        &rt,
-        alloc,
-        CardSet::new(),
-        CardSet::new().with(Card::try_from(0)?),
-    )?;
+    let [first, last] = [BoardNumber::try_from(1)?, BoardNumber::try_from(36)?];
+    is_key(&rt, alloc, first, last)?;
+    Ok(())
+}
+
+#[test]
+fn values_of_calls_are_keys(rt: HostRuntime) -> Result<(), Fail> {
+    let alloc = rt.alloc();
     is_key(&rt, alloc, Level::try_from(1)?, Level::try_from(7)?)?;
     is_key(&rt, alloc, Denomination::Clubs, Denomination::NoTrump)?;
     is_key(&rt, alloc, Doubling::Doubled, Doubling::Redoubled)?;
-    is_key(
-        &rt,
-        alloc,
-        Call::Pass,
-        Call::Bid(bid(1, Denomination::Clubs)?),
-    )?;
+    let club = Call::Bid(bid(1, Denomination::Clubs)?);
+    is_key(&rt, alloc, Call::Pass, club)?;
+    Ok(())
+}
+
+#[test]
+fn values_of_evenings_are_keys(rt: HostRuntime) -> Result<(), AllocError> {
+    let alloc = rt.alloc();
     is_key(&rt, alloc, Scoring::MatchPoints, Scoring::Imps)?;
     is_key(&rt, alloc, Key(0), Key(1))?;
-    is_key(
-        &rt,
-        alloc,
-        Row::default(),
-        Row {
-            set: 1,
-            ..Row::default()
-        },
-    )?;
-    is_key(
-        &rt,
-        alloc,
-        Line::default(),
-        Line {
-            pair: 1,
-            ..Line::default()
-        },
-    )?;
+    let row = Row {
+        set: 1,
+        ..Row::default()
+    };
+    is_key(&rt, alloc, Row::default(), row)?;
+    let line = Line {
+        pair: 1,
+        ..Line::default()
+    };
+    is_key(&rt, alloc, Line::default(), line)?;
     Ok(())
 }
 
@@ -147,12 +144,24 @@ fn values_are_printed(rt: HostRuntime) -> Result<(), Fail> {
     prints(&rt, alloc, Side::EastWest, "EW")?;
     prints(&rt, alloc, Vulnerability::Neither, "None")?;
     prints(&rt, alloc, Vulnerability::Both, "All")?;
-    prints(&rt, alloc, Rank::try_from(10)?, "T")?;
-    prints(&rt, alloc, Level::try_from(7)?, "7")?;
     prints(&rt, alloc, Doubling::Undoubled, "")?;
     prints(&rt, alloc, Doubling::Redoubled, "XX")?;
+    Ok(())
+}
+
+#[test]
+fn numbers_and_faults_are_printed(rt: HostRuntime) -> Result<(), Fail> {
+    let alloc = rt.alloc();
+    prints(&rt, alloc, Rank::try_from(10)?, "T")?;
+    prints(&rt, alloc, Level::try_from(7)?, "7")?;
     prints(&rt, alloc, BadCard, "the text is no card")?;
     prints(&rt, alloc, BadCall, "the text is no call")?;
+    Ok(())
+}
+
+#[test]
+fn hands_are_printed(rt: HostRuntime) -> Result<(), Fail> {
+    let alloc = rt.alloc();
     let deal = SUITS_DEALT.parse::<Deal>()?;
     prints(&rt, alloc, deal, SUITS_DEALT)?;
     prints(&rt, alloc, deal.hand(Seat::East), ".AKQJT98765432..")?;

@@ -7,7 +7,7 @@ use std::process::Abort;
 use std::test::Fail;
 
 /// The action of a line, and its bytes: the same in both formats, but for the averages, which the first one has not.
-const ROWS: [(&str, &[u8]); 12] = [
+static ROWS: [(&str, &[u8]); 12] = [
     (
         "DEAL 100 1 N:AKQJT98765432... .AKQJT98765432.. ..AKQJT98765432. ...AKQJT98765432",
         b"\x01\0\0\0\x64\x01\0\x0f\xff\x80\0\0\0\0\0\0\0\x7f\xfc\0\0\0\0\0\0\0\x03\xff\xe0\0\0\0\0\0\0\0\x1f\xff",
@@ -30,7 +30,8 @@ const ROWS: [(&str, &[u8]); 12] = [
 
 #[test]
 fn each_action_has_its_bytes(rt: HostRuntime) -> Result<(), Fail> {
-    for (line, due) in ROWS {
+    for (line, due) in &ROWS {
+        let (line, due) = (*line, *due);
         let action = script::action(&rt, line);
         let mut bytes = ArrayVec::new();
         write_action(&action, &mut bytes);
@@ -46,18 +47,21 @@ fn each_action_has_its_bytes(rt: HostRuntime) -> Result<(), Fail> {
     Ok(())
 }
 
+/// The corrections of lines, and their bytes in the second format; the first one has none.
+static CORRECTIONS: [(&str, &[u8]); 4] = [
+    ("UNDEAL 100 36", b"\x0d\0\0\0\x64\x24"),
+    ("BACK 100 1 2 3", b"\x0c\0\0\0\x64\x01\x02\x03"),
+    (
+        "ASSIGN 100 12 12 3 7NTXX W 13",
+        b"\x0e\0\0\0\x64\x0c\x0c\x03\x22\xa7",
+    ),
+    ("ASSIGN 100 1 2 3 1C N 0", b"\x0e\0\0\0\x64\x01\x02\x03\0\0"),
+];
+
 #[test]
 fn each_correction_has_its_bytes(rt: HostRuntime) -> Result<(), Fail> {
-    let rows: [(&str, &[u8]); 4] = [
-        ("UNDEAL 100 36", b"\x0d\0\0\0\x64\x24"),
-        ("BACK 100 1 2 3", b"\x0c\0\0\0\x64\x01\x02\x03"),
-        (
-            "ASSIGN 100 12 12 3 7NTXX W 13",
-            b"\x0e\0\0\0\x64\x0c\x0c\x03\x22\xa7",
-        ),
-        ("ASSIGN 100 1 2 3 1C N 0", b"\x0e\0\0\0\x64\x01\x02\x03\0\0"),
-    ];
-    for (line, due) in rows {
+    for (line, due) in &CORRECTIONS {
+        let (line, due) = (*line, *due);
         let action = script::correction(&rt, line);
         let mut bytes = ArrayVec::new();
         write_action(&action, &mut bytes);

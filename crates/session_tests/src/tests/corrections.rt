@@ -13,7 +13,7 @@ const A_DEAL: &str =
 const A_CALL: &str = "CALL 11 1 0 7S";
 
 /// The only call is taken back, then the deal, and a score is assigned.
-const CORRECTIONS: [&str; 3] = [
+static CORRECTIONS: [&str; 3] = [
     "BACK 100 1 1 1",
     "UNDEAL 100 1",
     "ASSIGN 100 1 1 1 4SX W 13",

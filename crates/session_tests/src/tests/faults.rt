@@ -193,7 +193,7 @@ fn faults_from_every_call_on(rt: HostRuntime) -> Result<(), Fail> {
     Ok(())
 }
 
-const FUSES: [(FailOf, bool); 4] = [
+static FUSES: [(FailOf, bool); 4] = [
     (FailOf::Once, false),
     (FailOf::Once, true),
     (FailOf::Always, false),

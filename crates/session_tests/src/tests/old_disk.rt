@@ -15,7 +15,7 @@ const TAKEN: &str =
 /// The sectors that are not zeros: the number of each, and its bytes up to the last that is not 0. The program wrote them as
 /// it stood before the second format: `format` with examples/rows.txt, `script` with the first three actions, and `script`
 /// with the last one.
-const SECTORS: [(u32, &[u8]); 23] = [
+static SECTORS: [(u32, &[u8]); 23] = [
     (0, b"BD1H\0\0\0\0\0\0\0\x03\0\0\0\x09"),
     (
         1,
@@ -114,24 +114,27 @@ fn old_disk(alloc: Global) -> Result<MemoryDisk, Fail> {
     Ok(disk)
 }
 
+/// The header and the parts of the plays, once the disk was opened.
+static OPENED: [(u32, &[u8]); 3] = [
+    (512, b"BD2H\0\0\0\0\0\0\0\x04\0\0\0\x09"),
+    (
+        520,
+        b"BD2P\0\0\0\0\0\0\0\x04\0\0\0\x07\0\x0a\0\x02\x24\0\0\0\0\0\0\0",
+    ),
+    (
+        521,
+        b"BD2P\0\0\0\0\0\0\0\x04\0\0\0\x08\0\x08\0\0\0\0\0\x02\0\0",
+    ),
+];
+
 // Epoch 4 in the second snapshot. In parts 7 and 8, of the plays, a ruling has three bytes.
 #[test]
 fn an_old_disk_is_opened(rt: HostRuntime) -> Result<(), Fail> {
     let store = opened_for(&rt, rt.alloc(), old_disk(rt.alloc())?, OPENING_CALLS);
     expect_state(&rt, rt.alloc(), &store, &[TAKEN], 4);
     let mut disk = store.into_disk().into_inner();
-    for (at, due) in [
-        (512, b"BD2H\0\0\0\0\0\0\0\x04\0\0\0\x09".as_slice()),
-        (
-            520,
-            b"BD2P\0\0\0\0\0\0\0\x04\0\0\0\x07\0\x0a\0\x02\x24\0\0\0\0\0\0\0".as_slice(),
-        ),
-        (
-            521,
-            b"BD2P\0\0\0\0\0\0\0\x04\0\0\0\x08\0\x08\0\0\0\0\0\x02\0\0".as_slice(),
-        ),
-    ] {
-        expect_sector(&rt, &mut disk, at, due)?;
+    for (at, due) in &OPENED {
+        expect_sector(&rt, &mut disk, *at, due)?;
     }
     Ok(())
 }
@@ -156,7 +159,7 @@ fn stopped(
 }
 
 /// Part 8 in the snapshot of epoch 5, and in that of epoch 6.
-const PARTS: [(u32, &[u8]); 2] = [
+static PARTS: [(u32, &[u8]); 2] = [
     (
         9,
         b"BD2P\0\0\0\0\0\0\0\x05\0\0\0\x08\0\x08\0\0\0\0\0\x02\0\0",

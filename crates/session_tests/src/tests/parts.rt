@@ -18,25 +18,22 @@ fn expect_part(rt: &impl Abort, session: &Session, index: u32, bytes: &[u8]) -> 
     Ok(())
 }
 
+/// Parts of a new session.
+static NEW_PARTS: [(u32, &[u8]); 6] = [
+    (1, b"\x01\x03\x01\x02\x04\x01"),
+    (2, b"\x03Ann\x00\x00\x00\x0b\x03Bob\x00\x00\x00\x0c"),
+    (5, b"\x03Gus\x00\x00\x00\x29\x03Hal\x00\x00\x00\x2a"),
+    (6, b"\x00"),
+    (7, b"\x00\x00\x00\x00\x00\x00\x00\x00"),
+    (8, b"\x00\x00\x00\x00\x00\x00\x00\x00"),
+];
+
 #[test]
 fn parts_of_a_new_session(rt: HostRuntime) -> Result<(), Fail> {
     let session = session_of(&rt, rt.alloc(), TWO_TABLES)?;
     expect_eq(&rt, session.parts(), 9, "parts");
-    for (index, bytes) in [
-        (1, b"\x01\x03\x01\x02\x04\x01".as_slice()),
-        (
-            2,
-            b"\x03Ann\x00\x00\x00\x0b\x03Bob\x00\x00\x00\x0c".as_slice(),
-        ),
-        (
-            5,
-            b"\x03Gus\x00\x00\x00\x29\x03Hal\x00\x00\x00\x2a".as_slice(),
-        ),
-        (6, b"\x00".as_slice()),
-        (7, b"\x00\x00\x00\x00\x00\x00\x00\x00".as_slice()),
-        (8, b"\x00\x00\x00\x00\x00\x00\x00\x00".as_slice()),
-    ] {
-        expect_part(&rt, &session, index, bytes)?;
+    for (index, bytes) in &NEW_PARTS {
+        expect_part(&rt, &session, *index, bytes)?;
     }
     Ok(())
 }

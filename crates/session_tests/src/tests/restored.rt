@@ -12,7 +12,7 @@ use std::test::Fail;
 const CLOSED: &str = "NEXT 100 1/TRICKS 100 1 1 1 12";
 
 /// A claim stands after the first trick, and the play of the other table is void.
-const STANDING: [&str; 3] = [
+static STANDING: [&str; 3] = [
     "DEAL 100 1 N:AKQJT98765432... .AKQJT98765432.. ..AKQJT98765432. ...AKQJT98765432/CALL 11 1 0 7S/CALL 31 1 1 X/CALL 12 1 2 XX/CALL 32 1 3 PASS/CALL 11 1 4 PASS",
     "CALL 31 1 5 PASS/CARD 31 1 0 HA/CARD 11 1 1 DA/CARD 32 1 2 CA/CARD 11 1 3 SA",
     "CLAIM 11 1 0 12/VOID 100 1 2 1",

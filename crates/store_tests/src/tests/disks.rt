@@ -19,7 +19,7 @@ type Row = (
     Result<(u16, u64), StoreFault>,
 );
 
-const ROWS: [Row; 30] = [
+static ROWS: [Row; 30] = [
     ("no records", &[], Ok((65_000, 2))),
     (
         "no record 2",

@@ -1,7 +1,6 @@
 //! Boards that are over, told to the players who sat there.
-use super::expect_eq;
-use super::peer::{answered, pages};
-use super::requests::{body_of, request};
+use super::peer::pages;
+use super::requests::expect_end;
 use std::test::Fail;
 use test_texts::SEVEN_TRICKS;
 
@@ -74,61 +73,51 @@ const AVERAGE: &str = "RESULT AVERAGE 60 40
 .
 ";
 
-/// The first line of a request, its body, and what the response ends with.
-const ROWS: &[(&str, &str, &str)] = &[
-    ("POST /boards HTTP/1.1", "11", NONE),
-    ("POST /boards HTTP/1.1", "100", NONE),
-    ("POST /boards HTTP/1.1", "100 1 1 1", "ERR 8 NotDealt\n"),
-    ("POST /boards HTTP/1.1", "100 1 3 1", "ERR 4 NoSuchPlay\n"),
-    ("POST /boards HTTP/1.1", "100 1 1", "ERR 30 BadLine\n"),
-    ("POST /boards HTTP/1.1", "11 1 1 1", "ERR 2 NotAllowed\n"),
-    ("POST /boards HTTP/1.1", "12345", "ERR 1 NoKey\n"),
-    ("POST /boards HTTP/1.1", "key", "ERR 30 BadLine\n"),
-    ("POST /lines HTTP/1.1", SEVEN_TRICKS, "OK\n"),
-    ("POST /boards HTTP/1.1", "11", NONE),
+/// The path of a request, its body, and what the response ends with.
+static ROWS: &[(&str, &str, &str)] = &[
+    ("/boards", "11", NONE),
+    ("/boards", "100", NONE),
+    ("/boards", "100 1 1 1", "ERR 8 NotDealt\n"),
+    ("/boards", "100 1 3 1", "ERR 4 NoSuchPlay\n"),
+    ("/boards", "100 1 1", "ERR 30 BadLine\n"),
+    ("/boards", "11 1 1 1", "ERR 2 NotAllowed\n"),
+    ("/boards", "12345", "ERR 1 NoKey\n"),
+    ("/boards", "key", "ERR 30 BadLine\n"),
+    ("/lines", SEVEN_TRICKS, "OK\n"),
+    ("/boards", "11", NONE),
     // What the director takes out he can give back, until the round ends.
-    ("POST /lines HTTP/1.1", "VOID 100 1 1 1\n", "OK\n"),
-    ("POST /boards HTTP/1.1", "11", NONE),
-    ("POST /lines HTTP/1.1", "RESTORE 100 1 1 1\n", "OK\n"),
-    ("POST /boards HTTP/1.1", "42", PASSED),
-    ("POST /lines HTTP/1.1", "CLAIM 11 1 0 6\n", "OK\n"),
-    ("POST /boards HTTP/1.1", "31", NONE),
-    ("POST /boards HTTP/1.1", "100 1 1 1", STANDING),
+    ("/lines", "VOID 100 1 1 1\n", "OK\n"),
+    ("/boards", "11", NONE),
+    ("/lines", "RESTORE 100 1 1 1\n", "OK\n"),
+    ("/boards", "42", PASSED),
+    ("/lines", "CLAIM 11 1 0 6\n", "OK\n"),
+    ("/boards", "31", NONE),
+    ("/boards", "100 1 1 1", STANDING),
     (
-        "POST /lines HTTP/1.1",
+        "/lines",
         "AGREE 31 1 1\nAGREE 32 1 1\n",
         "OK\nOK\n",
     ),
-    ("POST /boards HTTP/1.1", "12", MADE),
-    ("POST /boards HTTP/1.1", "12 OPEN", "ERR 2 NotAllowed\n"),
-    ("POST /boards HTTP/1.1", "12", MADE),
-    ("POST /boards HTTP/1.1", "100 OPEN", "OK\nOTHERS OPEN\n.\n"),
-    ("POST /boards HTTP/1.1", "31", BEATEN),
-    ("POST /boards HTTP/1.1", "41", BEST),
-    ("POST /boards HTTP/1.1", "100 SHUT", NONE),
-    ("POST /lines HTTP/1.1", "TRICKS 100 1 1 1 9\n", "OK\n"),
-    ("POST /boards HTTP/1.1", "31", RULED),
-    ("POST /boards HTTP/1.1", "100", RULINGS),
-    ("POST /lines HTTP/1.1", "ADJUST 100 1 1 1 60 40\n", "OK\n"),
-    ("POST /boards HTTP/1.1", "11", AVERAGE),
+    ("/boards", "12", MADE),
+    ("/boards", "12 OPEN", "ERR 2 NotAllowed\n"),
+    ("/boards", "12", MADE),
+    ("/boards", "100 OPEN", "OK\nOTHERS OPEN\n.\n"),
+    ("/boards", "31", BEATEN),
+    ("/boards", "41", BEST),
+    ("/boards", "100 SHUT", NONE),
+    ("/lines", "TRICKS 100 1 1 1 9\n", "OK\n"),
+    ("/boards", "31", RULED),
+    ("/boards", "100", RULINGS),
+    ("/lines", "ADJUST 100 1 1 1 60 40\n", "OK\n"),
+    ("/boards", "11", AVERAGE),
 ];
 
 // A player is told of his own table's board once it is over there, and the ruling that stands in place of the result.
 #[test]
 fn boards_are_told_once_they_are_over(rt: HostRuntime) -> Result<(), Fail> {
-    let alloc = rt.alloc();
-    let mut pages = pages(alloc)?;
+    let mut pages = pages(rt.alloc())?;
     for (path, body, due) in ROWS {
-        let bytes = request(
-            alloc,
-            path,
-            "127.0.0.1:4000",
-            "application/x-table-lines",
-            body,
-        )?;
-        let response = answered(&rt, alloc, &mut pages, bytes.as_slice(), 4096)?;
-        let told = body_of(response.as_slice());
-        expect_eq(&rt, told.ends_with(due.as_bytes()), true, (body, due));
+        expect_end(&rt, rt.alloc(), &mut pages, path, body, due)?;
     }
     Ok(())
 }

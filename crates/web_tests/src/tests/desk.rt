@@ -1,7 +1,6 @@
 //! Calls for the director, his notice, the clock, and what is said with a claim.
-use super::expect_eq;
-use super::peer::{answered, pages_with};
-use super::requests::{body_of, request};
+use super::peer::pages_with;
+use super::requests::expect_end;
 use std::cell::Cell;
 use std::test::Fail;
 use table_pages::Seconds;
@@ -20,7 +19,7 @@ impl Seconds for SetClock<'_> {
 }
 
 /// The second, the path, the body, and what the response ends with.
-const ROWS: &[(u32, &str, &str, &str)] = &[
+static ROWS: &[(u32, &str, &str, &str)] = &[
     (0, "/desk", "11", "OK\nNOW 0 600\n.\n"),
     (
         0,
@@ -157,22 +156,11 @@ const ROWS: &[(u32, &str, &str, &str)] = &[
 // What stands beside the session is told to those whom it concerns, at the second of the request.
 #[test]
 fn what_stands_on_the_desk_is_told(rt: HostRuntime) -> Result<(), Fail> {
-    let alloc = rt.alloc();
     let seconds = Cell::new(0);
-    let mut pages = pages_with(alloc, SetClock { seconds: &seconds })?;
+    let mut pages = pages_with(rt.alloc(), SetClock { seconds: &seconds })?;
     for (at, path, body, due) in ROWS {
         seconds.set(*at);
-        let line = format!(in alloc; "POST {path} HTTP/1.1")?;
-        let bytes = request(
-            alloc,
-            line.as_str(),
-            "127.0.0.1:4000",
-            "application/x-table-lines",
-            body,
-        )?;
-        let response = answered(&rt, alloc, &mut pages, bytes.as_slice(), 4096)?;
-        let told = body_of(response.as_slice());
-        expect_eq(&rt, told.ends_with(due.as_bytes()), true, (body, due));
+        expect_end(&rt, rt.alloc(), &mut pages, path, body, due)?;
     }
     Ok(())
 }

@@ -1,10 +1,14 @@
 //! Addresses that guess keys, and how long they wait.
 use super::expect_eq;
-use super::peer::{answered, pages};
+use super::peer::{ClubStore, StoppedClock, answered, pages};
 use super::requests::{request, status_of};
+use std::alloc::Global;
 use std::net::{IpAddr, Ipv4Addr, Ipv6Addr};
+use std::process::Abort;
+use std::random::RandomSource;
 use std::test::Fail;
 use std::time::{Duration, Instant};
+use table_pages::TablePages;
 use web_loop::{LastingService, Offenders};
 
 /// An address of the club's network.
@@ -30,32 +34,42 @@ fn guessed(begun: Instant, requests: &[(u64, u64)]) -> Result<Offenders, Fail> {
     Ok(offenders)
 }
 
+/// The requests of a device, and until when it then waits, in milliseconds; 0 is an address that does not wait.
+type Waits = (&'static [(u64, u64)], u64);
+
+static WAITS: [Waits; 9] = [
+    (&[(9, 0)], 0),
+    (&[(5, 0), (5, 100)], 5_100),
+    (&[(9, 0), (1, 59_999)], 60_999),
+    (&[(9, 0), (1, 60_000)], 0),
+    (&[(10, 0), (0, 20_000)], 21_000),
+    (&[(10, 0), (7, 20_000)], 27_000),
+    (&[(10, 0), (60, 20_000)], 80_000),
+    (&[(10, 0), (8_000, 20_000)], 80_000),
+    (&[(10, 0), (0, 60_000)], 0),
+];
+
+/// Fails where the device of a row waits or not at another time than it should, or another device waits.
+fn expect_waits(rt: &impl Abort, begun: Instant, row: &Waits) -> Result<(), Fail> {
+    let (requests, until) = *row;
+    let offenders = guessed(begun, requests)?;
+    let now = requests.last().map_or(0, |request| request.1);
+    let waits = [now, until.saturating_sub(1).max(now), until.max(now)];
+    for (at, due) in waits.iter().zip([until > 0, until > 0, false]) {
+        let time = after(begun, *at)?;
+        expect_eq(rt, offenders.waits(device(7), time), due, (requests, *at));
+        expect_eq(rt, offenders.waits(device(8), time), false, "another");
+    }
+    Ok(())
+}
+
 // The tenth within a minute slows, each key of a request counts, and a minute after the first of ten it is over. A slowed
-// address waits a second for each wrong key of its last request, at least one and at most 60. A row says until when, in
-// milliseconds; 0 is an address that does not wait.
+// address waits a second for each wrong key of its last request, at least one and at most 60.
 #[test]
 fn the_tenth_wrong_key_within_a_minute_slows(rt: HostRuntime) -> Result<(), Fail> {
     let begun = Instant::now(&rt)?;
-    let rows: [(&[(u64, u64)], u64); 9] = [
-        (&[(9, 0)], 0),
-        (&[(5, 0), (5, 100)], 5_100),
-        (&[(9, 0), (1, 59_999)], 60_999),
-        (&[(9, 0), (1, 60_000)], 0),
-        (&[(10, 0), (0, 20_000)], 21_000),
-        (&[(10, 0), (7, 20_000)], 27_000),
-        (&[(10, 0), (60, 20_000)], 80_000),
-        (&[(10, 0), (8_000, 20_000)], 80_000),
-        (&[(10, 0), (0, 60_000)], 0),
-    ];
-    for (requests, until) in rows {
-        let offenders = guessed(begun, requests)?;
-        let now = requests.last().map_or(0, |request| request.1);
-        let waits = [now, until.saturating_sub(1).max(now), until.max(now)];
-        for (at, due) in waits.iter().zip([until > 0, until > 0, false]) {
-            let time = after(begun, *at)?;
-            expect_eq(&rt, offenders.waits(device(7), time), due, (requests, *at));
-            expect_eq(&rt, offenders.waits(device(8), time), false, "another");
-        }
+    for row in WAITS.as_slice() {
+        expect_waits(&rt, begun, row)?;
     }
     Ok(())
 }
@@ -78,42 +92,48 @@ fn addresses_are_told_apart(rt: HostRuntime) -> Result<(), Fail> {
     Ok(())
 }
 
+/// The first line of a request, its body, its status, and how many wrong keys there were until then.
+type Counted = (&'static str, &'static str, &'static str, u64);
+
+static COUNTED: [Counted; 9] = [
+    ("GET / HTTP/1.1", "", "200", 0),
+    (
+        "POST /lines HTTP/1.1",
+        "SEE 1\nSEE 11\nSEE 2\nCALL 3 1 0 PASS\n",
+        "200",
+        3,
+    ),
+    ("POST /place HTTP/1.1", "999", "200", 4),
+    ("POST /place HTTP/1.1", "11", "200", 4),
+    ("POST /tables HTTP/1.1", "999", "200", 5),
+    ("POST /boards HTTP/1.1", "999", "200", 6),
+    ("POST /results HTTP/1.1", "999", "200", 7),
+    ("POST /names HTTP/1.1", "999", "200", 8),
+    ("GET /lines HTTP/1.1", "SEE 1\n", "405", 8),
+];
+
+/// Fails where a row's request has another status, or other keys are counted.
+fn expect_counted<N: RandomSource + Abort>(
+    rt: &N,
+    alloc: Global,
+    pages: &mut TablePages<ClubStore, StoppedClock>,
+    row: &Counted,
+) -> Result<(), Fail> {
+    let (first, body, status, due) = *row;
+    let kind = "application/x-table-lines";
+    let bytes = request(alloc, first, "127.0.0.1:4000", kind, body)?;
+    let response = answered(rt, alloc, pages, bytes.as_slice(), 4096)?;
+    expect_eq(rt, status_of(response.as_slice()), status.as_bytes(), first);
+    expect_eq(rt, pages.offences(), due, body);
+    Ok(())
+}
+
 // Each path that answers keys counts them, and no other.
 #[test]
 fn wrong_keys_are_counted(rt: HostRuntime) -> Result<(), Fail> {
-    let alloc = rt.alloc();
-    let mut pages = pages(alloc)?;
-    for (first, body, status, due) in [
-        ("GET / HTTP/1.1", "", "200", 0),
-        (
-            "POST /lines HTTP/1.1",
-            "SEE 1\nSEE 11\nSEE 2\nCALL 3 1 0 PASS\n",
-            "200",
-            3,
-        ),
-        ("POST /place HTTP/1.1", "999", "200", 4),
-        ("POST /place HTTP/1.1", "11", "200", 4),
-        ("POST /tables HTTP/1.1", "999", "200", 5),
-        ("POST /boards HTTP/1.1", "999", "200", 6),
-        ("POST /results HTTP/1.1", "999", "200", 7),
-        ("POST /names HTTP/1.1", "999", "200", 8),
-        ("GET /lines HTTP/1.1", "SEE 1\n", "405", 8),
-    ] {
-        let bytes = request(
-            alloc,
-            first,
-            "127.0.0.1:4000",
-            "application/x-table-lines",
-            body,
-        )?;
-        let response = answered(&rt, alloc, &mut pages, bytes.as_slice(), 4096)?;
-        expect_eq(
-            &rt,
-            status_of(response.as_slice()),
-            status.as_bytes(),
-            first,
-        );
-        expect_eq(&rt, pages.offences(), due, body);
+    let mut pages = pages(rt.alloc())?;
+    for row in COUNTED.as_slice() {
+        expect_counted(&rt, rt.alloc(), &mut pages, row)?;
     }
     Ok(())
 }

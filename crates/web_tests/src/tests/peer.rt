@@ -19,7 +19,7 @@ use test_texts::TWO_TABLES;
 use web_loop::{Turn, take_turn};
 
 /// Texts of pages.
-const TEXTS: PageTexts = PageTexts {
+static TEXTS: PageTexts = PageTexts {
     page: "<!doctype html>",
     style: "body { margin: 0; }",
     texts_script: "let texts = 4;",

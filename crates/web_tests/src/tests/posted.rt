@@ -1,7 +1,10 @@
 //! Lines that are posted, whole and byte by byte, and results.
 use super::expect_eq;
 use super::peer::{answered, pages};
-use super::requests::{body_of, request};
+use super::requests::{body_of, expect_body, posted, request};
+use std::alloc::Global;
+use std::process::Abort;
+use std::random::RandomSource;
 use std::test::Fail;
 
 /// A deal, calls of both tables, and lines that are refused.
@@ -39,98 +42,76 @@ TABLE 2 2 4 - NotCurrent
 .
 ";
 
-// However a request is cut, what it posts is answered and taken.
-#[test]
-fn posted_lines_are_served(rt: HostRuntime) -> Result<(), Fail> {
-    let alloc = rt.alloc();
-    for piece in [1, 7, 4096] {
-        let mut pages = pages(alloc)?;
-        let bytes = request(
-            alloc,
-            "POST /lines HTTP/1.1",
-            "127.0.0.1:4000",
-            "application/x-table-lines",
-            LINES,
-        )?;
-        let response = answered(&rt, alloc, &mut pages, bytes.as_slice(), piece)?;
-        expect_eq(&rt, body_of(response.as_slice()), REPLIES.as_bytes(), piece);
-        let asked = request(
-            alloc,
-            "POST /tables HTTP/1.1",
-            "localhost:4000",
-            "application/x-table-lines",
-            "100",
-        )?;
-        let tables = answered(&rt, alloc, &mut pages, asked.as_slice(), piece)?;
-        expect_eq(&rt, body_of(tables.as_slice()), TABLES.as_bytes(), piece);
+/// Fails where the lines, or the question for the tables, are answered otherwise, of which each read gives so many bytes.
+fn expect_served<N: RandomSource + Abort>(rt: &N, alloc: Global, piece: usize) -> Result<(), Fail> {
+    let mut pages = pages(alloc)?;
+    for (first, host, body, due) in [
+        ("POST /lines HTTP/1.1", "127.0.0.1:4000", LINES, REPLIES),
+        ("POST /tables HTTP/1.1", "localhost:4000", "100", TABLES),
+    ] {
+        let bytes = request(alloc, first, host, "application/x-table-lines", body)?;
+        let response = answered(rt, alloc, &mut pages, bytes.as_slice(), piece)?;
+        expect_eq(rt, body_of(response.as_slice()), due.as_bytes(), piece);
     }
     Ok(())
 }
 
+// However a request is cut, what it posts is answered and taken.
+#[test]
+fn posted_lines_are_served(rt: HostRuntime) -> Result<(), Fail> {
+    for piece in [1, 7, 4096] {
+        expect_served(&rt, rt.alloc(), piece)?;
+    }
+    Ok(())
+}
+
+/// Paths, what is posted there, and the answer.
+static BEFORE_THE_END: &[(&str, &str, &str)] = &[
+    ("/results", "11", "ERR 2 NotAllowed\n"),
+    ("/results", "12345", "ERR 1 NoKey\n"),
+    ("/results", "key", "ERR 30 BadLine\n"),
+    (
+        "/lines",
+        "VOID 100 1 1 1\nVOID 100 1 2 1\nNEXT 100 1\n",
+        "OK\nOK\nOK\n",
+    ),
+];
+
 // Results are told to the director at any time, and to a player once the session is closed.
 #[test]
 fn results_wait_for_the_end(rt: HostRuntime) -> Result<(), Fail> {
-    let alloc = rt.alloc();
-    let mut pages = pages(alloc)?;
-    for (path, body, due) in [
-        ("POST /results HTTP/1.1", "11", "ERR 2 NotAllowed\n"),
-        ("POST /results HTTP/1.1", "12345", "ERR 1 NoKey\n"),
-        ("POST /results HTTP/1.1", "key", "ERR 30 BadLine\n"),
-        (
-            "POST /lines HTTP/1.1",
-            "VOID 100 1 1 1\nVOID 100 1 2 1\nNEXT 100 1\n",
-            "OK\nOK\nOK\n",
-        ),
-    ] {
-        let bytes = request(
-            alloc,
-            path,
-            "127.0.0.1:4000",
-            "application/x-table-lines",
-            body,
-        )?;
-        let response = answered(&rt, alloc, &mut pages, bytes.as_slice(), 4096)?;
-        expect_eq(&rt, body_of(response.as_slice()), due.as_bytes(), body);
+    let mut pages = pages(rt.alloc())?;
+    for (path, body, due) in BEFORE_THE_END {
+        expect_body(&rt, rt.alloc(), &mut pages, path, body, due)?;
     }
     for key in ["11", "100"] {
-        let bytes = request(
-            alloc,
-            "POST /results HTTP/1.1",
-            "127.0.0.1:4000",
-            "application/x-table-lines",
-            key,
-        )?;
-        let response = answered(&rt, alloc, &mut pages, bytes.as_slice(), 4096)?;
+        let response = posted(&rt, rt.alloc(), &mut pages, "/results", key)?;
         let body = body_of(response.as_slice());
         expect_eq(&rt, body.starts_with(b"Club-Night\n"), true, key);
     }
     Ok(())
 }
 
+/// The names of pair 1.
+const NAMES: &str = "1\tAnn\tBob\tÁnn Lee\t李小龍\n";
+
+/// What is posted for the names, and the answer.
+static NAMES_TOLD: &[(&str, &str)] = &[
+    ("11", "OK\n1\tAnn\tBob\tÁnn Lee\t李小龍\n.\n"),
+    ("100", "OK\n1\tAnn\tBob\tÁnn Lee\t李小龍\n.\n"),
+    ("12345", "ERR 1 NoKey\n"),
+    ("key", "ERR 30 BadLine\n"),
+];
+
 // The lines of names are told to whoever has a key.
 #[test]
 fn names_are_told(rt: HostRuntime) -> Result<(), Fail> {
-    let alloc = rt.alloc();
-    let mut pages = pages(alloc)?;
-    let mut people = Vec::new(alloc);
-    people.extend_from_slice("1\tAnn\tBob\tÁnn Lee\t李小龍\n".as_bytes())?;
+    let mut pages = pages(rt.alloc())?;
+    let mut people = Vec::new(rt.alloc());
+    people.extend_from_slice(NAMES.as_bytes())?;
     pages.show_names(people);
-    let told = "OK\n1\tAnn\tBob\tÁnn Lee\t李小龍\n.\n";
-    for (body, due) in [
-        ("11", told),
-        ("100", told),
-        ("12345", "ERR 1 NoKey\n"),
-        ("key", "ERR 30 BadLine\n"),
-    ] {
-        let bytes = request(
-            alloc,
-            "POST /names HTTP/1.1",
-            "127.0.0.1:4000",
-            "application/x-table-lines",
-            body,
-        )?;
-        let response = answered(&rt, alloc, &mut pages, bytes.as_slice(), 4096)?;
-        expect_eq(&rt, body_of(response.as_slice()), due.as_bytes(), body);
+    for (body, due) in NAMES_TOLD {
+        expect_body(&rt, rt.alloc(), &mut pages, "/names", body, due)?;
     }
     Ok(())
 }

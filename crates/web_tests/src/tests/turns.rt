@@ -2,8 +2,11 @@
 use super::expect_eq;
 use super::peer::pages;
 use http_server::Connection;
+use std::alloc::Global;
 use std::hash::RandomState;
 use std::io::{Error, ErrorKind, Read, Result, Write};
+use std::process::Abort;
+use std::random::RandomSource;
 use std::test::Fail;
 use table_pages::limits;
 use web_loop::{Turn, take_turn};
@@ -88,7 +91,7 @@ const INTERRUPTED: ErrorKind = ErrorKind::Interrupted;
 
 const BOTH: usize = 2 * REQUEST_BYTES;
 
-const ROWS: [Row; 9] = [
+static ROWS: [Row; 9] = [
     (None, REQUEST_BYTES, Taking::All, WAITS, 0, true),
     (Some(BLOCKS), REQUEST_BYTES, Taking::All, IDLE, BOTH, false),
     (
@@ -142,24 +145,35 @@ const ROWS: [Row; 9] = [
     (None, 1, Taking::All, Turn::GoesOn, BOTH - 63, true),
 ];
 
+/// Fails where the turn of a row, of this number, ends otherwise.
+fn expect_turn<N: RandomSource + Abort>(
+    rt: &N,
+    alloc: Global,
+    number: usize,
+    row: &Row,
+) -> std::result::Result<(), Fail> {
+    let (fails, piece, first, due, left, is_written) = *row;
+    let mut pages = pages(alloc)?;
+    let mut connection = Connection::new(alloc, RandomState::new(rt)?, limits());
+    let mut giver = Giver {
+        fails,
+        piece,
+        unread: REQUESTS,
+    };
+    let mut taker = Taker { first, taken: 0 };
+    let turn = take_turn(&mut connection, &mut pages, &mut giver, &mut taker);
+    expect_eq(rt, turn, due, number);
+    expect_eq(rt, giver.unread.len(), left, number);
+    expect_eq(rt, taker.taken > 0, is_written, number);
+    Ok(())
+}
+
 // A peer that gives or takes nothing now is waited for, and one that is gone is not; an interruption ends nothing; what is
 // pending goes out before more is read; and a turn ends after 64 steps, here 63 reads of a byte and a write.
 #[test]
 fn turns_end_as_the_peer_has_it(rt: HostRuntime) -> std::result::Result<(), Fail> {
-    let alloc = rt.alloc();
-    for (row, (fails, piece, first, due, left, is_written)) in ROWS.into_iter().enumerate() {
-        let mut pages = pages(alloc)?;
-        let mut connection = Connection::new(alloc, RandomState::new(&rt)?, limits());
-        let mut giver = Giver {
-            fails,
-            piece,
-            unread: REQUESTS,
-        };
-        let mut taker = Taker { first, taken: 0 };
-        let turn = take_turn(&mut connection, &mut pages, &mut giver, &mut taker);
-        expect_eq(&rt, turn, due, row);
-        expect_eq(&rt, giver.unread.len(), left, row);
-        expect_eq(&rt, taker.taken > 0, is_written, row);
+    for (number, row) in ROWS.iter().enumerate() {
+        expect_turn(&rt, rt.alloc(), number, row)?;
     }
     Ok(())
 }

@@ -180,31 +180,43 @@ fn sent_to<N: RandomSource + Clock>(
     Ok((at_once > 0, got.get() > at_once))
 }
 
+/// What is posted to wait with, where nothing stands for the request of a player who waits, and whether it is answered at once.
+static WAITS: [(&str, bool); 6] = [
+    ("x\n", true),
+    ("", false),
+    ("12345\n", true),
+    ("31\nOK\n.\n", true),
+    ("31", true),
+    ("100\nOK\n", true),
+];
+
+/// Fails where a body is answered at another time.
+fn expect_answer<N: RandomSource + Clock + Abort>(
+    rt: &N,
+    alloc: Global,
+    body: &'static str,
+    at_once: bool,
+) -> Result<(), Fail> {
+    let mut pages = pages(alloc)?;
+    let bytes = match body {
+        "" => waiting(rt, alloc, &mut pages, "31")?,
+        _ => request(alloc, "POST /wait HTTP/1.1", HOST, LINES, body)?,
+    };
+    let got = Cell::new(0);
+    let socket = Socket {
+        unread: bytes.as_slice(),
+        got: &got,
+    };
+    let (is_sent, is_sent_later) = sent_to(rt, alloc, &mut pages, socket)?;
+    expect_eq(rt, (is_sent, is_sent_later), (at_once, !at_once), body);
+    Ok(())
+}
+
 // What is no key, is nobody's, or was told another text is answered at once; who waits, at the end.
 #[test]
 fn waits_end_at_once_or_at_the_end(rt: HostRuntime) -> Result<(), Fail> {
-    let alloc = rt.alloc();
-    let rows = [
-        ("x\n", true),
-        ("", false),
-        ("12345\n", true),
-        ("31\nOK\n.\n", true),
-        ("31", true),
-        ("100\nOK\n", true),
-    ];
-    for (body, at_once) in rows {
-        let mut pages = pages(alloc)?;
-        let bytes = match body {
-            "" => waiting(&rt, alloc, &mut pages, "31")?,
-            _ => request(alloc, "POST /wait HTTP/1.1", HOST, LINES, body)?,
-        };
-        let got = Cell::new(0);
-        let socket = Socket {
-            unread: bytes.as_slice(),
-            got: &got,
-        };
-        let (is_sent, is_sent_later) = sent_to(&rt, alloc, &mut pages, socket)?;
-        expect_eq(&rt, (is_sent, is_sent_later), (at_once, !at_once), body);
+    for (body, at_once) in WAITS.as_slice() {
+        expect_answer(&rt, rt.alloc(), body, *at_once)?;
     }
     Ok(())
 }

@@ -1,6 +1,6 @@
 //! HTML pages of the worked session: rows that were worked out by hand.
 use super::pages::{holds, page_of, page_shown};
-use super::script::{DIRECTOR, IMPS, MATCHPOINTS, act, dealt, play, round_1, round_2, round_3};
+use super::script::{DIRECTOR, IMPS, MATCHPOINTS, act, play, played};
 use super::{adjust, void};
 use bridge_auction::{Bid, Call, Contract, Doubling};
 use bridge_cards::Seat;
@@ -19,14 +19,14 @@ fn expect_parts(rt: &impl Abort, page: &[u8], parts: &[&str]) {
 #[test]
 fn by_imps(rt: HostRuntime) -> Result<(), Fail> {
     let page = page_of(&rt, rt.alloc(), IMPS, Format::Html)?;
-    let parts = [
+    static PARTS: [&str; 5] = [
         "<title>Club-Night</title>",
         "<tr><td class=\"r\">1</td><td class=\"r\"><a href=\"#pair-2\">2</a></td><td>Cat and Dan</td><td class=\"r\">33</td></tr>",
         "<td><a href=\"#play-1-3-2\">4<span class=\"s\">&spades;</span>x-2</a></td><td>E</td><td></td><td class=\"r\">300</td>",
         "<p>Place 1 of 3: 33 IMPs</p>",
         "<td>4<span class=\"s\">&spades;</span>x-2</td><td>E</td><td class=\"r\">300</td><td class=\"r\">-7</td></tr>",
     ];
-    expect_parts(&rt, page.as_slice(), &parts);
+    expect_parts(&rt, page.as_slice(), &PARTS);
     Ok(())
 }
 
@@ -34,7 +34,7 @@ fn by_imps(rt: HostRuntime) -> Result<(), Fail> {
 #[test]
 fn by_matchpoints(rt: HostRuntime) -> Result<(), Fail> {
     let page = page_of(&rt, rt.alloc(), MATCHPOINTS, Format::Html)?;
-    let parts = [
+    static PARTS: [&str; 8] = [
         "<h2>Ranking NS</h2>",
         "<h2>Ranking EW</h2>",
         "<section class=\"traveller\" id=\"board-1\">\n<h3>Board 1</h3>\n",
@@ -47,7 +47,7 @@ fn by_matchpoints(rt: HostRuntime) -> Result<(), Fail> {
             "<td>4<span class=\"s\">&spades;</span>x-2</td><td>E</td><td class=\"r\">-300</td><td class=\"r\">4.0</td><td class=\"r\">100.00</td></tr>"
         ),
     ];
-    expect_parts(&rt, page.as_slice(), &parts);
+    expect_parts(&rt, page.as_slice(), &PARTS);
     Ok(())
 }
 
@@ -56,7 +56,7 @@ fn by_matchpoints(rt: HostRuntime) -> Result<(), Fail> {
 #[test]
 fn auctions_and_plays(rt: HostRuntime) -> Result<(), Fail> {
     let page = page_of(&rt, rt.alloc(), MATCHPOINTS, Format::Html)?;
-    let parts = [
+    static PARTS: [&str; 4] = [
         concat!(
             "<summary>1 Ann and Bob, 4 Gus and Hal: 4<span class=\"h\">&hearts;</span>= N</summary>\n<p>Round 1, table 1</p>\n",
             "<table class=\"auction\" id=\"play-1-1-1\">\n<caption>Auction</caption>\n<thead><tr><th scope=\"col\">N</th>"
@@ -71,7 +71,7 @@ fn auctions_and_plays(rt: HostRuntime) -> Result<(), Fail> {
             "<tr><td>Pass</td><td>3NT</td><td>Pass</td><td>Pass</td></tr>\n<tr><td>Pass</td><td></td><td></td><td></td></tr>\n</table>\n"
         ),
     ];
-    expect_parts(&rt, page.as_slice(), &parts);
+    expect_parts(&rt, page.as_slice(), &PARTS);
     Ok(())
 }
 
@@ -98,14 +98,11 @@ fn assign(rt: &impl Abort, session: &mut Session) {
 // nothing is available.
 #[test]
 fn rulings(rt: HostRuntime) -> Result<(), Fail> {
-    let mut session = dealt(&rt, rt.alloc(), MATCHPOINTS)?;
-    round_1(&rt, &mut session);
-    round_2(&rt, &mut session);
-    round_3(&rt, &mut session);
+    let mut session = played(&rt, rt.alloc(), MATCHPOINTS)?;
     adjust(&rt, &mut session);
     assign(&rt, &mut session);
     let page = page_shown(&session, rt.alloc(), Format::Html)?;
-    let parts = [
+    static PARTS: [&str; 2] = [
         concat!(
             "<td><a href=\"#play-1-1-1\">7<span class=\"c\">&clubs;</span>xx=*</a></td><td>N</td><td><span class=\"h\">&hearts;</span>A</td>",
             "<td class=\"r\">1960</td><td class=\"r\">4.0</td><td class=\"r\">0.0</td><td class=\"r\">100.00</td><td class=\"r\">0.00</td></tr>"
@@ -115,7 +112,7 @@ fn rulings(rt: HostRuntime) -> Result<(), Fail> {
             "<td class=\"r\">1.2</td><td class=\"r\">0.8</td><td class=\"r\">60.00</td><td class=\"r\">40.00</td></tr>"
         ),
     ];
-    expect_parts(&rt, page.as_slice(), &parts);
+    expect_parts(&rt, page.as_slice(), &PARTS);
     void(&rt, &mut session);
     let page = page_shown(&session, rt.alloc(), Format::Html)?;
     let part =

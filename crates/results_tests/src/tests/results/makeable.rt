@@ -1,6 +1,6 @@
 //! Pages with what could be made: rows that were worked out by hand.
-use super::pages::{holds, played};
-use super::script::{MATCHPOINTS, board};
+use super::pages::holds;
+use super::script::{MATCHPOINTS, board, played};
 use arrayvec::ArrayVec;
 use bridge_par::{DeclarerTricks, TrickTable};
 use bridge_results::{Analysis, Makeable, PlayCosts, write_results_with};
@@ -45,7 +45,7 @@ const SUITS: TrickTable = TrickTable {
 };
 
 /// Nine tricks in the minors and eight in the majors: 110 by twenty contracts.
-const PARTS: TrickTable = TrickTable {
+const PART_SCORES: TrickTable = TrickTable {
     clubs: DeclarerTricks {
         north: 9,
         east: 4,
@@ -139,10 +139,10 @@ fn plain_text(rt: HostRuntime) -> Result<(), Fail> {
     let analysis = [
         Some(Makeable { table: SUITS }),
         None,
-        Some(Makeable { table: PARTS }),
+        Some(Makeable { table: PART_SCORES }),
     ];
     let page = page_with(&rt, rt.alloc(), &analysis, Format::Plain)?;
-    let parts = [
+    static LINES: [&str; 3] = [
         concat!(
             "\n  Can be made      C      D      H      S     NT\n",
             "  N                -     13      -     13      -\n",
@@ -157,7 +157,7 @@ fn plain_text(rt: HostRuntime) -> Result<(), Fail> {
             "  2C S, 2D N, 2D S, 2H N, 2H S, 2S N, 2S S, 3C N, 3C S, 3D N,\n  3D S\n\n  Round  Table"
         ),
     ];
-    expect_parts(&rt, page.as_slice(), &parts);
+    expect_parts(&rt, page.as_slice(), &LINES);
     let second = "\nBoard 2\nDealer: E, vulnerable: NS\n";
     assert!(&rt; holds(page.as_slice(), second));
     let tables = page
@@ -176,7 +176,7 @@ fn html(rt: HostRuntime) -> Result<(), Fail> {
         Some(Makeable { table: GAME }),
     ];
     let page = page_with(&rt, rt.alloc(), &analysis, Format::Html)?;
-    let parts = [
+    static PARTS: [&str; 4] = [
         concat!(
             "</table>\n<table class=\"makeable\">\n<caption>Can be made</caption>\n<thead><tr><th scope=\"col\">By</th>",
             "<th scope=\"col\" class=\"r\"><span class=\"c\">&clubs;</span></th><th scope=\"col\" class=\"r\"><span class=\"d\">&diams;</span></th>",
@@ -188,7 +188,7 @@ fn html(rt: HostRuntime) -> Result<(), Fail> {
         "<tr><td>E</td><td class=\"r\">-</td><td class=\"r\">9</td>",
         "<p>Par: 300, 5<span class=\"d\">&diams;</span>x E</p>\n",
     ];
-    expect_parts(&rt, page.as_slice(), &parts);
+    expect_parts(&rt, page.as_slice(), &PARTS);
     Ok(())
 }
 
@@ -213,13 +213,13 @@ fn cards_that_cost_a_trick(rt: HostRuntime) -> Result<(), Fail> {
     };
     let mut page = Vec::new(rt.alloc());
     write_results_with(&session, None, &analysis, Format::Html, &mut page)?;
-    let parts = [
+    static PARTS: [&str; 2] = [
         "<h2>Boards</h2>\n<p>A card with -1 behind it gave a trick away, as all the cards lay.</p>\n",
         concat!(
             "<tr><td class=\"r\">1</td><td>E</td><td><span class=\"h\">&hearts;</span>A -1</td><td><span class=\"d\">&diams;</span>2</td>",
             "<td><span class=\"c\">&clubs;</span>2</td><td><span class=\"s\">&spades;</span>2 -2</td><td>E</td></tr>\n"
         ),
     ];
-    expect_parts(&rt, page.as_slice(), &parts);
+    expect_parts(&rt, page.as_slice(), &PARTS);
     Ok(())
 }

@@ -1,5 +1,5 @@
 //! Pages of the worked session: rows that were worked out by hand.
-use super::script::{MATCHPOINTS, dealt, round_1, round_2, round_3};
+use super::script::{MATCHPOINTS, played};
 use arrayvec::ArrayString;
 use bridge_results::{Analysis, write_results, write_results_with};
 use bridge_session::Session;
@@ -14,15 +14,6 @@ pub fn page_shown(session: &Session, alloc: Global, format: Format) -> Result<Ve
     let mut page = Vec::new(alloc);
     write_results(session, format, &mut page)?;
     Ok(page)
-}
-
-/// Three rounds of a configuration.
-pub fn played(rt: &impl Abort, alloc: Global, config: &str) -> Result<Session, Fail> {
-    let mut session = dealt(rt, alloc, config)?;
-    round_1(rt, &mut session);
-    round_2(rt, &mut session);
-    round_3(rt, &mut session);
-    Ok(session)
 }
 
 /// The page of three rounds of a configuration.
@@ -64,7 +55,7 @@ pub fn holds(page: &[u8], part: &str) -> bool {
 #[test]
 fn plain_text(rt: HostRuntime) -> Result<(), Fail> {
     let page = page_of(&rt, rt.alloc(), MATCHPOINTS, Format::Plain)?;
-    let rows = [
+    static ROWS: [&str; 11] = [
         "Club-Night\nTown-Hall, 2026.03.14\nMatchpoints\nTables: 3, boards: 3, rounds: 3\n",
         "\nRanking, field 2\n",
         "      1      6  Kim and Lea                                                 ",
@@ -77,7 +68,7 @@ fn plain_text(rt: HostRuntime) -> Result<(), Fail> {
         "\n      3      1  EW          2  4SX       E           8       -300        4.0\n",
         "\nTotal: 12.0 of 12.0\n",
     ];
-    for row in rows {
+    for row in &ROWS {
         assert!(&rt; holds(page.as_slice(), row), "{row}");
     }
     Ok(())
@@ -100,26 +91,34 @@ fn six_pairs() -> [PairNames; 6] {
     names
 }
 
+// Of the names of pair 6, 22 columns of 53 are taken.
 #[test]
-fn pages_with_names(rt: HostRuntime) -> Result<(), Fail> {
-    let names = six_pairs();
-    let names = Some(names.as_slice());
-    let plain = page_with(&rt, rt.alloc(), MATCHPOINTS, names, Format::Plain)?;
-    // 22 columns of 53 are taken.
-    let rows = [
+fn plain_pages_with_names(rt: HostRuntime) -> Result<(), Fail> {
+    static ROWS: [&str; 3] = [
         "      1      6  李小龍 and O'Brien <b>                                      12.0       12.0   100.00\n",
         "\nPair 6: 李小龍 and O'Brien <b>\n",
         "\nPair 1: A and B\n",
     ];
-    for row in rows {
-        assert!(&rt; holds(plain.as_slice(), row), "{row}");
+    let names = six_pairs();
+    let names = Some(names.as_slice());
+    let page = page_with(&rt, rt.alloc(), MATCHPOINTS, names, Format::Plain)?;
+    for row in &ROWS {
+        assert!(&rt; holds(page.as_slice(), row), "{row}");
     }
-    let html = page_with(&rt, rt.alloc(), MATCHPOINTS, names, Format::Html)?;
-    for part in [
+    Ok(())
+}
+
+#[test]
+fn html_pages_with_names(rt: HostRuntime) -> Result<(), Fail> {
+    static PARTS: [&str; 2] = [
         "<td>李小龍 and O&#39;Brien &lt;b&gt;</td>",
         "<h3>Pair 6: 李小龍 and O&#39;Brien &lt;b&gt;</h3>",
-    ] {
-        assert!(&rt; holds(html.as_slice(), part), "{part}");
+    ];
+    let names = six_pairs();
+    let names = Some(names.as_slice());
+    let page = page_with(&rt, rt.alloc(), MATCHPOINTS, names, Format::Html)?;
+    for part in &PARTS {
+        assert!(&rt; holds(page.as_slice(), part), "{part}");
     }
     Ok(())
 }

@@ -106,19 +106,6 @@ fn claim(
     }
 }
 
-/// A table bids, and claims before the lead.
-fn bid_and_claim(
-    rt: &impl Abort,
-    session: &mut Session,
-    number: u8,
-    calls: &[(u32, &str)],
-    tricks: (u32, u8),
-    opponents: [u32; 2],
-) {
-    call(rt, session, board(rt, number), calls);
-    claim(rt, session, board(rt, number), tricks, opponents);
-}
-
 /// The director deals a board, one suit in each hand: North has the spades.
 fn deal(rt: &impl Abort, session: &mut Session, number: u8) {
     let text = b"N:AKQJT98765432... .AKQJT98765432.. ..AKQJT98765432. ...AKQJT98765432";
@@ -151,78 +138,173 @@ fn next(rt: &impl Abort, session: &mut Session, number: u8) {
     act(rt, session, action);
 }
 
-/// Round 1. Board 1: 1 makes 4H against 4, after four cards. Board 2: 2 makes 3NT against 5. Board 3: 6 makes 2H doubled
-/// against 3.
-pub fn round_1(rt: &impl Abort, s: &mut Session) {
-    let calls = [(11, "4H"), (41, "PASS"), (12, "PASS"), (42, "PASS")];
-    call(rt, s, board(rt, 1), &calls);
-    cards(rt, s, 1, &[(41, "HA"), (11, "D2"), (42, "C2"), (11, "S2")]);
-    claim(rt, s, board(rt, 1), (11, 10), [41, 42]);
-    let calls = [
-        (51, "PASS"),
-        (22, "3NT"),
-        (52, "PASS"),
-        (21, "PASS"),
-        (51, "PASS"),
-    ];
-    bid_and_claim(rt, s, 2, &calls, (22, 9), [51, 52]);
-    let calls = [
-        (32, "PASS"),
-        (62, "2H"),
-        (31, "X"),
-        (61, "PASS"),
-        (32, "PASS"),
-        (62, "PASS"),
-    ];
-    bid_and_claim(rt, s, 3, &calls, (62, 8), [31, 32]);
-    next(rt, s, 1);
+/// What the players of those keys call or play in turn.
+type Turns = &'static [(u32, &'static str)];
+
+/// How a board is played: the calls, the cards before the claim, by which key and of how many tricks it is, and by which keys it
+/// is agreed to.
+#[derive(Clone, Copy)]
+struct Game {
+    board: u8,
+    calls: Turns,
+    cards: Turns,
+    claim: (u32, u8),
+    opponents: [u32; 2],
 }
 
-/// Round 2. Board 2: 1 is one down in 3NT against 6. Board 3: 4 is one down in 2H doubled against 2. Board 1: 3 makes an
-/// overtrick in 4H against 5.
-pub fn round_2(rt: &impl Abort, s: &mut Session) {
-    let calls = [
-        (61, "PASS"),
-        (12, "3NT"),
-        (62, "PASS"),
-        (11, "PASS"),
-        (61, "PASS"),
-    ];
-    bid_and_claim(rt, s, 2, &calls, (12, 8), [61, 62]);
-    let calls = [
-        (22, "PASS"),
-        (42, "2H"),
-        (21, "X"),
-        (41, "PASS"),
-        (22, "PASS"),
-        (42, "PASS"),
-    ];
-    bid_and_claim(rt, s, 3, &calls, (42, 7), [21, 22]);
-    let calls = [(31, "4H"), (51, "PASS"), (32, "PASS"), (52, "PASS")];
-    bid_and_claim(rt, s, 1, &calls, (31, 11), [51, 52]);
-    next(rt, s, 2);
+/// Board 1: 1 makes 4H against 4, after four cards. Board 2: 2 makes 3NT against 5. Board 3: 6 makes 2H doubled against 3.
+static ROUND_1: [Game; 3] = [
+    Game {
+        board: 1,
+        calls: &[(11, "4H"), (41, "PASS"), (12, "PASS"), (42, "PASS")],
+        cards: &[(41, "HA"), (11, "D2"), (42, "C2"), (11, "S2")],
+        claim: (11, 10),
+        opponents: [41, 42],
+    },
+    Game {
+        board: 2,
+        calls: &[
+            (51, "PASS"),
+            (22, "3NT"),
+            (52, "PASS"),
+            (21, "PASS"),
+            (51, "PASS"),
+        ],
+        cards: &[],
+        claim: (22, 9),
+        opponents: [51, 52],
+    },
+    Game {
+        board: 3,
+        calls: &[
+            (32, "PASS"),
+            (62, "2H"),
+            (31, "X"),
+            (61, "PASS"),
+            (32, "PASS"),
+            (62, "PASS"),
+        ],
+        cards: &[],
+        claim: (62, 8),
+        opponents: [31, 32],
+    },
+];
+
+/// Board 2: 1 is one down in 3NT against 6. Board 3: 4 is one down in 2H doubled against 2. Board 1: 3 makes an overtrick in 4H
+/// against 5.
+static ROUND_2: [Game; 3] = [
+    Game {
+        board: 2,
+        calls: &[
+            (61, "PASS"),
+            (12, "3NT"),
+            (62, "PASS"),
+            (11, "PASS"),
+            (61, "PASS"),
+        ],
+        cards: &[],
+        claim: (12, 8),
+        opponents: [61, 62],
+    },
+    Game {
+        board: 3,
+        calls: &[
+            (22, "PASS"),
+            (42, "2H"),
+            (21, "X"),
+            (41, "PASS"),
+            (22, "PASS"),
+            (42, "PASS"),
+        ],
+        cards: &[],
+        claim: (42, 7),
+        opponents: [21, 22],
+    },
+    Game {
+        board: 1,
+        calls: &[(31, "4H"), (51, "PASS"), (32, "PASS"), (52, "PASS")],
+        cards: &[],
+        claim: (31, 11),
+        opponents: [51, 52],
+    },
+];
+
+/// Board 3: 1 makes 2S against 5. Board 1: 6 is two down in 4S doubled against 2. Board 2: 4 makes 1NT against 3.
+static ROUND_3: [Game; 3] = [
+    Game {
+        board: 3,
+        calls: &[
+            (12, "PASS"),
+            (52, "PASS"),
+            (11, "2S"),
+            (51, "PASS"),
+            (12, "PASS"),
+            (52, "PASS"),
+        ],
+        cards: &[],
+        claim: (11, 8),
+        opponents: [51, 52],
+    },
+    Game {
+        board: 1,
+        calls: &[
+            (21, "PASS"),
+            (61, "4S"),
+            (22, "X"),
+            (62, "PASS"),
+            (21, "PASS"),
+            (61, "PASS"),
+        ],
+        cards: &[],
+        claim: (61, 8),
+        opponents: [21, 22],
+    },
+    Game {
+        board: 2,
+        calls: &[(41, "1NT"), (32, "PASS"), (42, "PASS"), (31, "PASS")],
+        cards: &[],
+        claim: (41, 7),
+        opponents: [32, 31],
+    },
+];
+
+/// The boards of a round are played.
+fn games(rt: &impl Abort, session: &mut Session, games: &[Game]) {
+    for game in games {
+        call(rt, session, board(rt, game.board), game.calls);
+        cards(rt, session, game.board, game.cards);
+        claim(
+            rt,
+            session,
+            board(rt, game.board),
+            game.claim,
+            game.opponents,
+        );
+    }
 }
 
-/// Round 3. Board 3: 1 makes 2S against 5. Board 1: 6 is two down in 4S doubled against 2. Board 2: 4 makes 1NT against 3.
-pub fn round_3(rt: &impl Abort, s: &mut Session) {
-    let calls = [
-        (12, "PASS"),
-        (52, "PASS"),
-        (11, "2S"),
-        (51, "PASS"),
-        (12, "PASS"),
-        (52, "PASS"),
-    ];
-    bid_and_claim(rt, s, 3, &calls, (11, 8), [51, 52]);
-    let calls = [
-        (21, "PASS"),
-        (61, "4S"),
-        (22, "X"),
-        (62, "PASS"),
-        (21, "PASS"),
-        (61, "PASS"),
-    ];
-    bid_and_claim(rt, s, 1, &calls, (61, 8), [21, 22]);
-    let calls = [(41, "1NT"), (32, "PASS"), (42, "PASS"), (31, "PASS")];
-    bid_and_claim(rt, s, 2, &calls, (41, 7), [32, 31]);
+/// The first round.
+pub fn round_1(rt: &impl Abort, session: &mut Session) {
+    games(rt, session, &ROUND_1);
+    next(rt, session, 1);
+}
+
+/// The second round.
+pub fn round_2(rt: &impl Abort, session: &mut Session) {
+    games(rt, session, &ROUND_2);
+    next(rt, session, 2);
+}
+
+/// The third round, of which the director says no end.
+pub fn round_3(rt: &impl Abort, session: &mut Session) {
+    games(rt, session, &ROUND_3);
+}
+
+/// A session of three rounds of a configuration.
+pub fn played(rt: &impl Abort, alloc: Global, config: &str) -> Result<Session, Fail> {
+    let mut session = dealt(rt, alloc, config)?;
+    round_1(rt, &mut session);
+    round_2(rt, &mut session);
+    round_3(rt, &mut session);
+    Ok(session)
 }

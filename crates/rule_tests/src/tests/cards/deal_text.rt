@@ -7,7 +7,7 @@ use std::process::Abort;
 use std::test::Fail;
 
 /// A suit to each hand, and four cards of one suit and three of each other to each hand.
-const DEALS: [&[u8]; 2] = [
+static DEALS: [&[u8]; 2] = [
     b"N:AKQJT98765432... .AKQJT98765432.. ..AKQJT98765432. ...AKQJT98765432",
     b"N:AKQJ.T98.765.432 T98.765.432.AKQJ 765.432.AKQJ.T98 432.AKQJ.T98.765",
 ];
@@ -86,7 +86,7 @@ fn expect_read(
 
 #[test]
 fn texts_are_read_where_they_are_in_form(rt: HostRuntime) -> Result<(), AllocError> {
-    for deal in DEALS {
+    for deal in DEALS.as_slice() {
         for (index, old) in deal.iter().enumerate() {
             for new in 0..=255 {
                 expect_read(&rt, rt.alloc(), deal, index, &[new])?;
@@ -100,11 +100,11 @@ fn texts_are_read_where_they_are_in_form(rt: HostRuntime) -> Result<(), AllocErr
 
 #[test]
 fn deals_are_printed_from_the_highest_rank_down(rt: HostRuntime) -> Result<(), Fail> {
-    for text in DEALS {
+    for text in DEALS.as_slice() {
         let deal = read_deal(text).map_err(|_| "a deal")?;
         let mut printed = ArrayString::new();
         print_deal(&deal, Seat::North, &mut printed);
-        expect_eq(&rt, printed.as_str().as_bytes(), text, printed.as_str());
+        expect_eq(&rt, printed.as_str().as_bytes(), *text, printed.as_str());
     }
     Ok(())
 }
@@ -119,35 +119,38 @@ fn ranks_are_read_in_any_order(rt: HostRuntime) -> Result<(), Fail> {
     Ok(())
 }
 
+/// Texts that are no deal, and why.
+static FAULTS: [(&[u8], BadDeal); 19] = [
+    (b"", BadDeal::Form),
+    (b"N", BadDeal::Form),
+    (b"N:", BadDeal::Form),
+    (b"N:... ... ...", BadDeal::Form),
+    (b"N:... ... ... ...", BadDeal::NotThirteen),
+    (b"N:... ... ... ... ", BadDeal::Form),
+    (b"N:...  ... ... ...", BadDeal::Form),
+    (b" N:... ... ... ...", BadDeal::Form),
+    (b"N: ... ... ... ...", BadDeal::Form),
+    (b"n:... ... ... ...", BadDeal::Form),
+    (b"N ... ... ... ...", BadDeal::Form),
+    (b"N:... ... ... ....", BadDeal::Form),
+    (b"N:... ... ... ... ...", BadDeal::Form),
+    (b"N:AA... ... ... ...", BadDeal::Form),
+    (b"N:10... ... ... ...", BadDeal::Form),
+    (b"N:A... A... ... ...", BadDeal::Twice),
+    (b"S:2.3.4.5 ... ... 2...", BadDeal::Twice),
+    (
+        b"N:AKQJT9876543... 2.AKQJT98765432.. ..AKQJT98765432. ...AKQJT98765432",
+        BadDeal::NotThirteen,
+    ),
+    (
+        b"N:A23456789TJQKA... .AKQJT98765432.. ..AKQJT98765432. ...AKQJT98765432",
+        BadDeal::Form,
+    ),
+];
+
 #[test]
 fn faults_of_texts_are_named(rt: HostRuntime) {
-    for (text, fault) in [
-        (b"".as_slice(), BadDeal::Form),
-        (b"N", BadDeal::Form),
-        (b"N:", BadDeal::Form),
-        (b"N:... ... ...", BadDeal::Form),
-        (b"N:... ... ... ...", BadDeal::NotThirteen),
-        (b"N:... ... ... ... ", BadDeal::Form),
-        (b"N:...  ... ... ...", BadDeal::Form),
-        (b" N:... ... ... ...", BadDeal::Form),
-        (b"N: ... ... ... ...", BadDeal::Form),
-        (b"n:... ... ... ...", BadDeal::Form),
-        (b"N ... ... ... ...", BadDeal::Form),
-        (b"N:... ... ... ....", BadDeal::Form),
-        (b"N:... ... ... ... ...", BadDeal::Form),
-        (b"N:AA... ... ... ...", BadDeal::Form),
-        (b"N:10... ... ... ...", BadDeal::Form),
-        (b"N:A... A... ... ...", BadDeal::Twice),
-        (b"S:2.3.4.5 ... ... 2...", BadDeal::Twice),
-        (
-            b"N:AKQJT9876543... 2.AKQJT98765432.. ..AKQJT98765432. ...AKQJT98765432",
-            BadDeal::NotThirteen,
-        ),
-        (
-            b"N:A23456789TJQKA... .AKQJT98765432.. ..AKQJT98765432. ...AKQJT98765432",
-            BadDeal::Form,
-        ),
-    ] {
-        expect_eq(&rt, read_deal(text), Err(fault), text);
+    for (text, fault) in FAULTS.as_slice() {
+        expect_eq(&rt, read_deal(text), Err(*fault), *text);
     }
 }

@@ -63,21 +63,24 @@ fn quarter_round(state: &mut [u32; 16], indexes: [usize; 4]) {
     state[indexes[3] % 16] = d;
 }
 
+/// The indexes of each quarter round of a double round.
+static DOUBLE_ROUND: [[usize; 4]; 8] = [
+    [0, 4, 8, 12],
+    [1, 5, 9, 13],
+    [2, 6, 10, 14],
+    [3, 7, 11, 15],
+    [0, 5, 10, 15],
+    [1, 6, 11, 12],
+    [2, 7, 8, 13],
+    [3, 4, 9, 14],
+];
+
 /// The block of that state (RFC 8439, section 2.3): ten double rounds, and the state added to them.
 fn block(first: [u32; 16]) -> [u32; 16] {
     let mut state = first;
     for _ in 0..10 {
-        for indexes in [
-            [0, 4, 8, 12],
-            [1, 5, 9, 13],
-            [2, 6, 10, 14],
-            [3, 7, 11, 15],
-            [0, 5, 10, 15],
-            [1, 6, 11, 12],
-            [2, 7, 8, 13],
-            [3, 4, 9, 14],
-        ] {
-            quarter_round(&mut state, indexes);
+        for indexes in DOUBLE_ROUND.as_slice() {
+            quarter_round(&mut state, *indexes);
         }
     }
     for index in 0..16 {
@@ -172,34 +175,36 @@ fn seed_of(bit: Option<u8>) -> [u8; 32] {
     seed
 }
 
+/// The words of the block of RFC 8439, section 2.3.2.
+static RFC_BLOCK: [u32; 16] = [
+    0xe4e7_f110,
+    0x1559_3bd1,
+    0x1fdd_0f50,
+    0xc471_20a3,
+    0xc7f4_d1c7,
+    0x0368_c033,
+    0x9aaa_2204,
+    0x4e6c_d4c3,
+    0x4664_82d2,
+    0x09aa_9f07,
+    0x05d7_c214,
+    0xa202_8bd9,
+    0xd19c_12b5,
+    0xb94e_16de,
+    0xe883_d0cb,
+    0x4e3c_50a2,
+];
+
 #[test]
 fn the_block_is_that_of_the_rfc(rt: HostRuntime) {
     let mut key = [0; 32];
     for (number, byte) in (0..32).zip(&mut key) {
         *byte = number;
     }
-    let expected = [
-        0xe4e7_f110,
-        0x1559_3bd1,
-        0x1fdd_0f50,
-        0xc471_20a3,
-        0xc7f4_d1c7,
-        0x0368_c033,
-        0x9aaa_2204,
-        0x4e6c_d4c3,
-        0x4664_82d2,
-        0x09aa_9f07,
-        0x05d7_c214,
-        0xa202_8bd9,
-        0xd19c_12b5,
-        0xb94e_16de,
-        0xe883_d0cb,
-        0x4e3c_50a2,
-    ];
     expect_eq(
         &rt,
         block(first_state(&key, [1, 0x0900_0000, 0x4a00_0000, 0])),
-        expected,
+        RFC_BLOCK,
         "RFC 8439, section 2.3.2",
     );
 }

@@ -19,7 +19,7 @@ PAIR 4 Gus 41 Hal 42
 ";
 
 /// What is put for a byte, beside the byte that is one greater.
-const BYTES: [u8; 8] = [b' ', b'0', b'9', b'A', b'.', b'\n', b'\r', 200];
+static BYTES: [u8; 8] = [b' ', b'0', b'9', b'A', b'.', b'\n', b'\r', 200];
 
 /// How many of the texts are accepted in which another byte is put for one. A text counts twice where the byte that is one
 /// greater is also one of `BYTES`.

@@ -6,7 +6,8 @@ use super::twin::{Played, may_follow, worth};
 use crate::tests::expect_eq;
 use arrayvec::ArrayVec;
 use bridge_cards::{Card, CardSet, DECK, Seat, Side, Suit, read_card};
-use bridge_endings::DealSolver;
+use bridge_endings::{CardCost, DealSolver};
+use std::process::Abort;
 use std::test::Fail;
 
 /// South runs eleven clubs. Then North has the ace and queen of spades, behind West's king and jack, or before East's.
@@ -18,7 +19,15 @@ const FINESSE_LOSES: &[u8] =
 
 /// A deal, its last eight cards, the tricks of North and South before the first card and after the last, and the indexes of
 /// the cards that give a trick away.
-const PLAYS: [(&[u8], [&[u8]; 8], u8, u8, &[usize]); 2] = [
+type Finesse = (
+    &'static [u8],
+    [&'static [u8]; 8],
+    u8,
+    u8,
+    &'static [usize],
+);
+
+static FINESSES: [Finesse; 2] = [
     // North plays the ace on West's jack.
     (
         FINESSE_WINS,
@@ -69,6 +78,20 @@ impl Table {
         legal
     }
 
+    /// One of them, which the sequence of numbers picks.
+    fn picked(&self, state: &mut u32) -> Option<Card> {
+        let legal = self.legal().cards();
+        let choice = next(state) as usize % legal.len().max(1);
+        legal.as_slice().get(choice).copied()
+    }
+
+    /// One of them that is no spade, or else a spade.
+    fn spare(&self) -> Option<Card> {
+        let legal = self.legal();
+        let others = legal.difference(legal.of_suit(Suit::Spades));
+        others.lowest().or(legal.lowest())
+    }
+
     fn play(&mut self, card: Card, trump: Option<Suit>) {
         self.hands = self.hands.map(|hand| hand.without(card));
         let _ = self.cards.try_push(card);
@@ -94,37 +117,59 @@ fn others(won: u8) -> u8 {
     13_u8.saturating_sub(won)
 }
 
+/// Plays 44 spare cards and then these, without trumps.
+fn play_all(table: &mut Table, last: &[&[u8]]) -> Option<()> {
+    for _ in 0..44 {
+        table.play(table.spare()?, None);
+    }
+    for card in last {
+        table.play(read_card(card)?, None);
+    }
+    Some(())
+}
+
+/// The cards at these indexes give a trick away, and no others do.
+fn expect_given(rt: &impl Abort, costs: &[CardCost], wrong: &[usize], text: &[u8]) {
+    for (index, cost) in costs.iter().enumerate() {
+        let due = if wrong.contains(&index) { 1 } else { 0 };
+        expect_eq(rt, cost.tricks, due, (text, index));
+    }
+}
+
+/// The solver finds the tricks of East and West before the cards and after them, and what each card costs.
+fn expect_finesse(
+    rt: &impl Abort,
+    solver: &mut DealSolver,
+    cards: &[Card],
+    finesse: &Finesse,
+) -> Option<()> {
+    let (text, _, before, after, wrong) = finesse;
+    let first = solver.tricks_after(None, Seat::East, &[]);
+    expect_eq(rt, first, Some(others(*before)), (*text, "before"));
+    let end = solver.tricks_after(None, Seat::East, cards);
+    expect_eq(rt, end, Some(others(*after)), (*text, "after"));
+    let costs = solver.costs(None, Seat::East, cards)?;
+    expect_given(rt, costs.as_slice(), wrong, text);
+    Some(())
+}
+
 #[test]
 fn one_card_gives_a_trick_away(rt: HostRuntime) -> Result<(), Fail> {
-    for (text, last, before, after, wrong) in PLAYS.as_slice() {
-        let deal = deal_of(text)?;
+    for finesse in FINESSES.as_slice() {
+        let deal = deal_of(finesse.0)?;
         let mut table = Table::new(deal.hands(), None, Seat::East);
-        for _ in 0..44 {
-            let legal = table.legal();
-            let spare = legal.difference(legal.of_suit(Suit::Spades));
-            let card = spare.lowest().or(legal.lowest()).ok_or("a card")?;
-            table.play(card, None);
-        }
-        for card in last.as_slice() {
-            table.play(read_card(card).ok_or("a card")?, None);
-        }
-        let cards = table.cards.as_slice();
+        play_all(&mut table, finesse.1.as_slice()).ok_or("a card")?;
         let mut solver = DealSolver::new(rt.alloc(), &deal)?;
-        let first = solver.tricks_after(None, Seat::East, &[]);
-        expect_eq(&rt, first, Some(others(*before)), (*text, "before"));
-        let end = solver.tricks_after(None, Seat::East, cards);
-        expect_eq(&rt, end, Some(others(*after)), (*text, "after"));
-        let costs = solver.costs(None, Seat::East, cards).ok_or("costs")?;
-        for (index, cost) in costs.as_slice().iter().enumerate() {
-            let due = if wrong.contains(&index) { 1 } else { 0 };
-            expect_eq(&rt, cost.tricks, due, (*text, index));
-        }
+        let cards = table.cards.as_slice();
+        expect_finesse(&rt, &mut solver, cards, finesse).ok_or("costs")?;
     }
     Ok(())
 }
 
-/// Deals, what is trumps, and who declares.
-const DEALS: [(&[u8], Option<Suit>, Seat); 2] = [
+/// A deal, what is trumps, and who declares.
+type Game = (&'static [u8], Option<Suit>, Seat);
+
+static GAMES: [Game; 2] = [
     (HANDS, Some(Suit::Spades), Seat::West),
     (FINESSE_LOSES, None, Seat::North),
 ];
@@ -137,56 +182,73 @@ fn tricks_of(seat: Seat, won: u8) -> u8 {
     }
 }
 
+/// Plays all cards as the sequence of numbers picks them; before each of the last twelve the solver finds the tricks of the
+/// plain search. The result is the seat of each card, and the tricks of North and South before each of those twelve and after
+/// the last.
+fn play_at_random(
+    rt: &impl Abort,
+    solver: &mut DealSolver,
+    table: &mut Table,
+    game: &Game,
+    state: &mut u32,
+) -> Option<([Seat; 52], [u8; 53])> {
+    let (text, trump, declarer) = *game;
+    let mut seats = [Seat::North; 52];
+    let mut won = [0_u8; 53];
+    for index in 0..DECK {
+        if index >= 40 {
+            won[index] = table.won_in_all();
+            let found = solver.tricks_after(trump, declarer, table.cards.as_slice());
+            let due = Some(tricks_of(declarer, won[index]));
+            expect_eq(rt, found, due, (text, index));
+        }
+        seats[index] = table.trick.turn();
+        table.play(table.picked(state)?, trump);
+    }
+    won[DECK] = table.won;
+    Some((seats, won))
+}
+
+/// Each of the last twelve cards costs its seat what its tricks become fewer by.
+fn expect_costs(
+    rt: &impl Abort,
+    costs: &[CardCost],
+    seats: &[Seat; 52],
+    won: &[u8; 53],
+    text: &[u8],
+) -> Option<()> {
+    for index in 40..DECK {
+        let cost = costs.get(index)?;
+        let before = tricks_of(seats[index], won[index]);
+        let after = tricks_of(seats[index], won[index + 1]);
+        expect_eq(rt, cost.seat, seats[index], (text, index));
+        expect_eq(rt, cost.tricks, before.saturating_sub(after), (text, index));
+    }
+    Some(())
+}
+
+/// A play in which a card comes twice has no costs.
+fn expect_no_costs(rt: &impl Abort, solver: &mut DealSolver, first: Card, game: &Game) {
+    let costs = solver.costs(game.1, game.2, &[first, first]);
+    expect_eq(rt, costs, None, "a card twice");
+}
+
 // Random cards; of the last twelve the plain search says what they cost.
 #[test]
 fn costs_are_those_of_the_plain_search(rt: HostRuntime) -> Result<(), Fail> {
     let mut state = 5;
-    for (text, trump, declarer) in DEALS.as_slice() {
+    for game in GAMES.as_slice() {
+        let (text, trump, declarer) = *game;
         let deal = deal_of(text)?;
-        let mut table = Table::new(deal.hands(), *trump, *declarer);
-        let mut due = [0_u8; 53];
-        let mut seats = [Seat::North; 52];
+        let mut table = Table::new(deal.hands(), trump, declarer);
         let mut solver = DealSolver::new(rt.alloc(), &deal)?;
-        for index in 0..DECK {
-            if index >= 40 {
-                due[index] = table.won_in_all();
-                let found = solver.tricks_after(*trump, *declarer, table.cards.as_slice());
-                expect_eq(
-                    &rt,
-                    found,
-                    Some(tricks_of(*declarer, due[index])),
-                    (*text, index),
-                );
-            }
-            seats[index] = table.trick.turn();
-            let legal = table.legal().cards();
-            let choice = next(&mut state) as usize % legal.len().max(1);
-            let card = legal.as_slice().get(choice).ok_or("a card")?;
-            table.play(*card, *trump);
-        }
-        due[DECK] = table.won;
+        let course = play_at_random(&rt, &mut solver, &mut table, game, &mut state);
+        let (seats, won) = course.ok_or("a card")?;
         let cards = table.cards.as_slice();
-        let costs = solver.costs(*trump, *declarer, cards).ok_or("costs")?;
-        for index in 40..DECK {
-            let cost = costs.as_slice().get(index).ok_or("a cost")?;
-            let before = tricks_of(seats[index], due[index]);
-            let after = tricks_of(seats[index], due[index + 1]);
-            expect_eq(&rt, cost.seat, seats[index], (*text, index));
-            expect_eq(
-                &rt,
-                cost.tricks,
-                before.saturating_sub(after),
-                (*text, index),
-            );
-        }
+        let costs = solver.costs(trump, declarer, cards).ok_or("costs")?;
+        expect_costs(&rt, costs.as_slice(), &seats, &won, text).ok_or("a cost")?;
         let first = *cards.first().ok_or("a card")?;
-        let twice = [first, first];
-        expect_eq(
-            &rt,
-            solver.costs(*trump, *declarer, &twice),
-            None,
-            "a card twice",
-        );
+        expect_no_costs(&rt, &mut solver, first, game);
     }
     Ok(())
 }

@@ -6,7 +6,7 @@ use bridge_endings::DealSolver;
 use std::test::Fail;
 
 /// What is trumps in each row of numbers.
-const TRUMPS: [Option<Suit>; 5] = [
+static TRUMPS: [Option<Suit>; 5] = [
     Some(Suit::Spades),
     Some(Suit::Hearts),
     Some(Suit::Diamonds),
@@ -17,7 +17,7 @@ const TRUMPS: [Option<Suit>; 5] = [
 pub const HANDS: &[u8] = b"N:73.QJT.AQ54.T752 QT6.876.KJ9.AQ84 5.A95432.7632.K6 AKJ9842.K.T8.J93";
 
 /// Each deal, and the tricks of North, East, South and West as declarers.
-const DEALS: [(&[u8], [[u8; 4]; 5]); 3] = [
+static DEALS: [(&[u8], [[u8; 4]; 5]); 3] = [
     (
         b"N:QJ6.K652.J85.T98 873.J97.AT764.Q4 K5.T83.KQ9.A7652 AT942.AQ4.32.KJ3",
         [

@@ -14,7 +14,7 @@ pub fn next(state: &mut u32) -> u32 {
 }
 
 /// Four ways to have trumps.
-const TRUMPS: [Option<Suit>; 4] = [
+static TRUMPS: [Option<Suit>; 4] = [
     None,
     Some(Suit::Clubs),
     Some(Suit::Hearts),

@@ -14,7 +14,7 @@ const ONE_CARD: &[u8] = b"N:A... 2... .2.. .3..";
 const SIX_CARDS: &[u8] = b"N:AKQJT9... .AKQJT9.. ..AKQJT9. ...AKQJT9";
 
 /// Hands, trump, who leads, and the tricks of North and South.
-const WORTHS: [(&[u8], Option<Suit>, Seat, u8); 8] = [
+static WORTHS: [(&[u8], Option<Suit>, Seat, u8); 8] = [
     (FINESSE_LOSES, None, Seat::South, 1),
     (FINESSE_WINS, None, Seat::South, 2),
     (FINESSE_LOSES, None, Seat::South, 1),

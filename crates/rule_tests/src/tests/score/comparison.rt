@@ -3,7 +3,7 @@ use crate::tests::expect_eq;
 use bridge_score::{cross_imps, imps, matchpoints, percent_hundredths};
 
 /// The differences at which 1 to 24 IMPs begin, as Law 78B prints them.
-const BEGINNINGS: [u32; 24] = [
+static BEGINNINGS: [u32; 24] = [
     20, 50, 90, 130, 170, 220, 270, 320, 370, 430, 500, 600, 750, 900, 1100, 1300, 1500, 1750,
     2000, 2250, 2500, 3000, 3500, 4000,
 ];

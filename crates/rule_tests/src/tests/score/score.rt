@@ -6,6 +6,21 @@ use bridge_cards::Seat;
 use bridge_score::score;
 use std::test::Fail;
 
+use Denomination::{Clubs, Hearts, NoTrump, Spades};
+use Doubling::{Doubled, Redoubled, Undoubled};
+
+/// A contract's level, denomination and doubling, whether its side is vulnerable, its tricks, and its score.
+static PRINTED: [(u8, Denomination, Doubling, bool, u8, i32); 8] = [
+    (7, NoTrump, Redoubled, true, 13, 2980),
+    (7, NoTrump, Redoubled, true, 0, -7600),
+    (2, Spades, Doubled, false, 8, 470),
+    (4, Hearts, Doubled, false, 6, -800),
+    (1, NoTrump, Undoubled, false, 8, 120),
+    (6, Clubs, Undoubled, true, 12, 1370),
+    (3, NoTrump, Undoubled, true, 9, 600),
+    (1, Spades, Undoubled, false, 11, 200),
+];
+
 /// The contract of that level by North.
 fn contract(level: u8, denomination: Denomination, doubling: Doubling) -> Result<Contract, Fail> {
     let level = Level::new(level).ok_or("a level")?;
@@ -21,21 +36,10 @@ fn contract(level: u8, denomination: Denomination, doubling: Doubling) -> Result
 
 #[test]
 fn scores_of_the_printed_table(rt: HostRuntime) -> Result<(), Fail> {
-    use Denomination::{Clubs, Hearts, NoTrump, Spades};
-    use Doubling::{Doubled, Redoubled, Undoubled};
-    for (level, denomination, doubling, vulnerable, tricks, points) in [
-        (7, NoTrump, Redoubled, true, 13, 2980),
-        (7, NoTrump, Redoubled, true, 0, -7600),
-        (2, Spades, Doubled, false, 8, 470),
-        (4, Hearts, Doubled, false, 6, -800),
-        (1, NoTrump, Undoubled, false, 8, 120),
-        (6, Clubs, Undoubled, true, 12, 1370),
-        (3, NoTrump, Undoubled, true, 9, 600),
-        (1, Spades, Undoubled, false, 11, 200),
-    ] {
-        let contract = contract(level, denomination, doubling)?;
-        let found = score(&contract, vulnerable, tricks);
-        expect_eq(&rt, found, points, (contract, tricks));
+    for (level, denomination, doubling, vulnerable, tricks, points) in PRINTED.as_slice() {
+        let contract = contract(*level, *denomination, *doubling)?;
+        let found = score(&contract, *vulnerable, *tricks);
+        expect_eq(&rt, found, *points, (contract, *tricks));
     }
     Ok(())
 }
