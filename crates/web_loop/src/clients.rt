@@ -69,12 +69,11 @@ impl<T: Read + Write + OpenStream + Drop> Clients<T> {
         let _ = stream.set_nodelay(true);
         let writer = stream.try_clone()?;
         self.make_room(address);
+        self.connected.reserve(1)?;
         let connection = Connection::new(self.alloc, self.keys, self.config);
-        let client = Client::new(connection, stream, writer, address, now);
-        match self.connected.insert(client) {
-            Ok(_) => Ok(()),
-            Err(_) => Err(io::ErrorKind::OutOfMemory.into()),
-        }
+        self.connected
+            .insert_reserved(Client::new(connection, stream, writer, address, now));
+        Ok(())
     }
 
     /// Makes room for one more client from an address.
@@ -117,21 +116,40 @@ impl<T: Read + Write + OpenStream + Drop> Clients<T> {
     fn drop_longest_silent(&mut self, from: Option<IpAddr>) {
         let mut longest: Option<(usize, Instant)> = None;
         for key in 0..self.connected.capacity() {
-            match (self.connected.get(key), longest) {
-                (Some(client), _) if from.is_some() && from != Some(client.address()) => {}
-                (Some(client), Some((_, other))) if other <= client.heard() => {}
-                (Some(client), _) => longest = Some((key, client.heard())),
-                (None, _) => {}
+            match self.heard_at(key, from) {
+                Some(heard) if is_before(heard, longest) => longest = Some((key, heard)),
+                _ => {}
             }
         }
         if let Some((key, _)) = longest {
-            self.connected.try_remove(key);
+            self.close(key);
         }
+    }
+
+    /// When the client under a key was heard, if there is one, of one address or of all.
+    fn heard_at(&self, key: usize, from: Option<IpAddr>) -> Option<Instant> {
+        let client = self.connected.get(key)?;
+        match from {
+            Some(address) if address != client.address() => None,
+            _ => Some(client.heard()),
+        }
+    }
+
+    /// Closes the connection of the client under a key, if there is one.
+    fn close(&mut self, key: usize)
+        ensures { (other : ℕ) → other ≢ key → get self.new.connected other ≡ get self.old.connected other }
+    {
+        self.connected.try_remove(key);
     }
 
     /// Whether an answer to any of them is not sent yet.
     pub fn has_pending(&self) -> bool {
-        (0..self.connected.capacity()).any(|key| self.is_pending_at(key))
+        for key in 0..self.connected.capacity() {
+            if self.is_pending_at(key) {
+                return true;
+            }
+        }
+        false
     }
 
     /// Whether an answer to the client under a key, if there is one, is not sent yet.
@@ -219,10 +237,18 @@ impl<T: Read + Write + OpenStream + Drop> Clients<T> {
             Turn::Waits { moved } => moved,
             Turn::GoesOn | Turn::Holds => true,
             Turn::Closes => {
-                self.connected.try_remove(key);
+                self.close(key);
                 true
             }
         }
+    }
+}
+
+/// Whether a time is before that of the other, if there is one.
+fn is_before(heard: Instant, longest: Option<(usize, Instant)>) -> bool {
+    match longest {
+        Some((_, other)) => heard < other,
+        None => true,
     }
 }
 

@@ -29,7 +29,7 @@ pub enum Turn {
 }
 
 /// What one step of a connection did.
-#[derive(Clone, Copy, Debug, PartialEq, Eq)]
+#[derive(Clone, Copy)]
 enum Step {
     /// It read or wrote, or was interrupted.
     Moved,

@@ -1,16 +1,72 @@
-use Rattle.std.proofs.Common.{◌∙◌}
+use Rattle.std.proofs.Common.{◌≡◌, ℕ, Bool, true, false, if◌then◌else◌, sym, subst, ◌∙◌}
 use Rattle.http_server.specs.Connection.{history}
 use Rattle.http_server.proofs.StreamLemmas.{Calls-then}
+use Rattle.web_loop.specs.declared.turn.Turn.{Turn}
+use Rattle.web_loop.specs.declared.turn.Turn.TheVariants.{GoesOn, Closes}
+use Rattle.web_loop.specs.Waiting.{TurnHolds}
 use Rattle.web_loop.proofs.TurnLemmas.{Receives-then, Sends-then}
 use Rattle.web_loop.proofs.turn.take_turn.Goals as goal
 
-pub returns-in-Blocked-clause-calls : goal.returns-in-Blocked-clause-calls
-returns-in-Blocked-clause-calls g c =
-    Calls-then g.S.Service.answers _ _ _ _ _ _ c.loop-steps.invariant.2 c.in-Blocked.ensures.calls
+-- a turn that is cut short is not held
+holds-cut_short : (done : Bool) (turn : Turn) (old new : ℕ) → turn ≡ (if done then Closes else GoesOn) → new ≡ old → TurnHolds turn old new
+holds-cut_short true turn old new is same = subst (λ (t : Turn). TurnHolds t old new) (sym is) tt
+holds-cut_short false turn old new is same = subst (λ (t : Turn). TurnHolds t old new) (sym is) same
 
-pub returns-in-Closed-clause-calls : goal.returns-in-Closed-clause-calls
-returns-in-Closed-clause-calls g c =
-    Calls-then g.S.Service.answers _ _ _ _ _ _ c.loop-steps.invariant.2 c.in-Closed.ensures.calls
+pub returns-in-Blocked : goal.returns-in-Blocked
+returns-in-Blocked g c =
+    let old = history c.args.connection.now in
+    let here = history c.loop-steps.connection in
+    let new = history c.take_step.new.connection in
+    record {
+      read = Receives-then old here new (g.R.Read.remaining c.args.reader.now) (g.R.Read.remaining c.loop-steps.reader) (g.R.Read.remaining c.take_step.new.reader) c.loop-steps.invariant.0 c.in-Blocked.ensures.read;
+      written = Sends-then old here new (g.W.Write.contents c.args.writer.now) (g.W.Write.contents c.loop-steps.writer) (g.W.Write.contents c.take_step.new.writer) c.loop-steps.invariant.1 c.in-Blocked.ensures.written;
+      calls = Calls-then g.S.Service.answers _ _ _ _ _ _ c.loop-steps.invariant.2 c.in-Blocked.ensures.calls;
+      holds = c.in-Blocked.ensures.holds ∙ c.loop-steps.invariant.3;
+    }
+
+pub returns-in-Held : goal.returns-in-Held
+returns-in-Held g c =
+    let old = history c.args.connection.now in
+    let here = history c.loop-steps.connection in
+    let new = history c.take_step.new.connection in
+    record {
+      read = Receives-then old here new (g.R.Read.remaining c.args.reader.now) (g.R.Read.remaining c.loop-steps.reader) (g.R.Read.remaining c.take_step.new.reader) c.loop-steps.invariant.0 c.in-Held.ensures.read;
+      written = Sends-then old here new (g.W.Write.contents c.args.writer.now) (g.W.Write.contents c.loop-steps.writer) (g.W.Write.contents c.take_step.new.writer) c.loop-steps.invariant.1 c.in-Held.ensures.written;
+      calls = Calls-then g.S.Service.answers _ _ _ _ _ _ c.loop-steps.invariant.2 c.in-Held.ensures.calls;
+      holds = tt;
+    }
+
+pub returns-in-Closed : goal.returns-in-Closed
+returns-in-Closed g c =
+    let old = history c.args.connection.now in
+    let here = history c.loop-steps.connection in
+    let new = history c.take_step.new.connection in
+    record {
+      read = Receives-then old here new (g.R.Read.remaining c.args.reader.now) (g.R.Read.remaining c.loop-steps.reader) (g.R.Read.remaining c.take_step.new.reader) c.loop-steps.invariant.0 c.in-Closed.ensures.read;
+      written = Sends-then old here new (g.W.Write.contents c.args.writer.now) (g.W.Write.contents c.loop-steps.writer) (g.W.Write.contents c.take_step.new.writer) c.loop-steps.invariant.1 c.in-Closed.ensures.written;
+      calls = Calls-then g.S.Service.answers _ _ _ _ _ _ c.loop-steps.invariant.2 c.in-Closed.ensures.calls;
+      holds = tt;
+    }
+
+pub returns-then-not-wants_write : goal.returns-then-not-wants_write
+returns-then-not-wants_write g c =
+    let old = history c.args.connection.now in
+    let here = history c.loop-steps.connection in
+    let new = history c.take_step.new.connection in
+    record {
+      read = Receives-then old here new (g.R.Read.remaining c.args.reader.now) (g.R.Read.remaining c.loop-steps.reader) (g.R.Read.remaining c.take_step.new.reader) c.loop-steps.invariant.0 c.in-Moved.ensures.read;
+      written = Sends-then old here new (g.W.Write.contents c.args.writer.now) (g.W.Write.contents c.loop-steps.writer) (g.W.Write.contents c.take_step.new.writer) c.loop-steps.invariant.1 c.in-Moved.ensures.written;
+      calls = Calls-then g.S.Service.answers _ _ _ _ _ _ c.loop-steps.invariant.2 c.in-Moved.ensures.calls;
+      holds = holds-cut_short c.is_done.result c.cut_short.result _ _ c.cut_short.ensures (c.in-Moved.ensures.holds ∙ c.loop-steps.invariant.3);
+    }
+
+pub returns : goal.returns
+returns g c = record {
+  read = c.loop-steps.invariant.0;
+  written = c.loop-steps.invariant.1;
+  calls = c.loop-steps.invariant.2;
+  holds = c.loop-steps.invariant.3;
+}
 
 pub loop-steps-preserved : goal.loop-steps-preserved
 loop-steps-preserved g c =
@@ -22,11 +78,3 @@ loop-steps-preserved g c =
       Calls-then g.S.Service.answers _ _ _ _ _ _ c.loop-steps.invariant.2 c.in-Moved.ensures.calls,
       c.in-Moved.ensures.holds ∙ c.loop-steps.invariant.3,
     )
-
-pub returns-then-not-wants_write-clause-calls : goal.returns-then-not-wants_write-clause-calls
-returns-then-not-wants_write-clause-calls g c =
-    Calls-then g.S.Service.answers _ _ _ _ _ _ c.loop-steps.invariant.2 c.in-Moved.ensures.calls
-
-pub returns-in-Held-clause-calls : goal.returns-in-Held-clause-calls
-returns-in-Held-clause-calls g c =
-    Calls-then g.S.Service.answers _ _ _ _ _ _ c.loop-steps.invariant.2 c.in-Held.ensures.calls
