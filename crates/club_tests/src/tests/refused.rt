@@ -101,13 +101,7 @@ fn a_disk_without_a_session_is_refused(rt: HostRuntime) -> Result<(), Fail> {
 }
 
 /// Gives so many bytes of a file, from one on, this value.
-fn change(
-    rt: &HostRuntime,
-    file: &str,
-    from: usize,
-    count: usize,
-    value: u8,
-) -> Result<(), Fail> {
+fn change(rt: &HostRuntime, file: &str, from: usize, count: usize, value: u8) -> Result<(), Fail> {
     let mut bytes = fs::read(rt, file)?;
     for byte in bytes.iter_mut().skip(from).take(count) {
         *byte = value;
@@ -224,7 +218,11 @@ fn a_damaged_record_is_named(rt: HostRuntime) -> Result<(), Fail> {
 static WRITERS: [&[&str]; 9] = [
     &["auction", "1"],
     &["plan", "bridge_club_output.txt"],
-    &["format", "bridge_club_output.disk", "bridge_club_output.txt"],
+    &[
+        "format",
+        "bridge_club_output.disk",
+        "bridge_club_output.txt",
+    ],
     &["check", "bridge_club_output.disk"],
     &["rank", "bridge_club_output.disk"],
     &["pbn", "bridge_club_output.disk"],
@@ -262,7 +260,14 @@ fn an_input_that_fails_is_named(rt: HostRuntime) -> Result<(), Fail> {
         let words = *words;
         let mut output = Vec::new(rt.alloc());
         let mut errors = Vec::new(rt.alloc());
-        let status = status_of_run(&rt, rt.alloc(), words, &mut Broken, &mut output, &mut errors);
+        let status = status_of_run(
+            &rt,
+            rt.alloc(),
+            words,
+            &mut Broken,
+            &mut output,
+            &mut errors,
+        );
         expect_eq(&rt, status, 3, words);
         expect_eq(&rt, errors.as_slice(), line, words);
     }

@@ -203,7 +203,12 @@ fn adjusted_and_void_plays(rt: HostRuntime) -> Result<(), Fail> {
     void(&rt, &mut session);
     let results = Results::new(&session);
     expect_rows(&rt, &results.traveller(board), &VOID);
-    expect_card(&rt, Side::NorthSouth, &results.score_card(1), &CARD_OF_PAIR_1);
+    expect_card(
+        &rt,
+        Side::NorthSouth,
+        &results.score_card(1),
+        &CARD_OF_PAIR_1,
+    );
     assert_eq!(rt; results.score_card(7).len(), 0);
     Ok(())
 }

@@ -93,11 +93,7 @@ static ROWS: &[(&str, &str, &str)] = &[
     ("/lines", "CLAIM 11 1 0 6\n", "OK\n"),
     ("/boards", "31", NONE),
     ("/boards", "100 1 1 1", STANDING),
-    (
-        "/lines",
-        "AGREE 31 1 1\nAGREE 32 1 1\n",
-        "OK\nOK\n",
-    ),
+    ("/lines", "AGREE 31 1 1\nAGREE 32 1 1\n", "OK\nOK\n"),
     ("/boards", "12", MADE),
     ("/boards", "12 OPEN", "ERR 2 NotAllowed\n"),
     ("/boards", "12", MADE),

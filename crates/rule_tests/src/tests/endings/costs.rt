@@ -19,13 +19,7 @@ const FINESSE_LOSES: &[u8] =
 
 /// A deal, its last eight cards, the tricks of North and South before the first card and after the last, and the indexes of
 /// the cards that give a trick away.
-type Finesse = (
-    &'static [u8],
-    [&'static [u8]; 8],
-    u8,
-    u8,
-    &'static [usize],
-);
+type Finesse = (&'static [u8], [&'static [u8]; 8], u8, u8, &'static [usize]);
 
 static FINESSES: [Finesse; 2] = [
     // North plays the ace on West's jack.

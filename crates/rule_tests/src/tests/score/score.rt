@@ -1,13 +1,12 @@
 //! Scores of the printed table, and all of them beside a plain twin.
 use super::twin;
 use crate::tests::expect_eq;
+use Denomination::{Clubs, Hearts, NoTrump, Spades};
+use Doubling::{Doubled, Redoubled, Undoubled};
 use bridge_auction::{Bid, Contract, Denomination, Doubling, Level};
 use bridge_cards::Seat;
 use bridge_score::score;
 use std::test::Fail;
-
-use Denomination::{Clubs, Hearts, NoTrump, Spades};
-use Doubling::{Doubled, Redoubled, Undoubled};
 
 /// A contract's level, denomination and doubling, whether its side is vulnerable, its tricks, and its score.
 static PRINTED: [(u8, Denomination, Doubling, bool, u8, i32); 8] = [
