@@ -86,7 +86,7 @@ fn slips_have_the_names_of_a_list(rt: HostRuntime) -> Result<(), Fail> {
     )?;
     expect_run(&rt, rt.alloc(), &WORDS, "", (0, slips.as_str(), ""));
     for (list, output, errors) in &BAD_LISTS {
-        fs::write(&rt, names, list)?;
+        fs::write(&rt, names, *list)?;
         expect_run(&rt, rt.alloc(), &WORDS, "", (3, output, errors));
     }
     fs::remove_file(&rt, names)?;

@@ -179,7 +179,7 @@ fn evenings_of_each_number_of_pairs(rt: HostRuntime) {
 
 #[test]
 fn dates_of_days(rt: HostRuntime) {
-    static ROWS: [(i64, Option<&str>); 6] = [
+    static ROWS: [(u64, Option<&str>); 6] = [
         (0, Some("1970.01.01")),
         (951_782_400, Some("2000.02.29")),
         (1_773_532_799, Some("2026.03.14")),

@@ -2,6 +2,7 @@
 use super::{Content, expect_eq, open, put, put_snapshot, sector_of};
 use sector_disk::{DiskFault, MemoryDisk, SectorDisk};
 use session_store::DiskFormat;
+use std::alloc::Global;
 use std::process::Abort;
 use std::test::Fail as Failure;
 

@@ -13,7 +13,7 @@ pub fn picks() -> [[u32; 2048]; 4] {
 }
 
 /// How often calls fail, and whether one that fails has effect.
-pub static FUSES: [(Fail, bool); 4] = [
+pub const FUSES: [(Fail, bool); 4] = [
     (Fail::Once, false),
     (Fail::Once, true),
     (Fail::Always, false),

@@ -22,7 +22,7 @@ fn held_disk(alloc: Global) -> Result<MemoryDisk, Failure> {
 fn a_fault_at_each_of_the_last_calls_over_a_state(rt: HostRuntime) -> Result<(), Failure> {
     let lists = picks();
     for calls in 2048..2062 {
-        for (fail, effect) in &FUSES {
+        for (fail, effect) in FUSES {
             for picks in &lists {
                 let row = (calls, fail, effect);
                 let fuse = Fuse::new(held_disk(rt.alloc())?, calls, fail, effect);
