@@ -57,7 +57,6 @@ fn write_hands_of<W: Write>(
 }
 
 /// Writes the heading of a board, and its hands with what could be made.
-#[tactic(auto, using(page_layout::proofs::Walk::then_written, page_layout::proofs::Walk::failed_before))]
 fn write_deal<W: Write>(
     boards: &[Option<Makeable>],
     session: &Session,
@@ -71,7 +70,6 @@ fn write_deal<W: Write>(
 }
 
 /// Writes the traveller and the frequencies of a board.
-#[tactic(auto, using(page_layout::proofs::Walk::then_written, page_layout::proofs::Walk::failed_before))]
 fn write_tables<W: Write>(
     scoring: Scoring,
     available: u32,
@@ -102,7 +100,6 @@ fn write_tables_of<W: Write>(
 }
 
 /// Writes the tables of a board, and how it was played.
-#[tactic(auto, using(page_layout::proofs::Walk::then_written, page_layout::proofs::Walk::failed_before))]
 fn write_played<W: Write>(
     names: Option<&[PairNames]>,
     plays: &[PlayCosts],
@@ -122,7 +119,6 @@ fn write_played<W: Write>(
 }
 
 /// Writes a board with the lines of its traveller.
-#[tactic(auto, using(page_layout::proofs::Walk::then_written, page_layout::proofs::Walk::failed_before))]
 pub fn write_board<W: Write>(
     names: Option<&[PairNames]>,
     analysis: &Analysis<'_>,

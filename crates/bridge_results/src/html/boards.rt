@@ -116,7 +116,6 @@ fn write_note<W: Write>(plays: &[PlayCosts], writer: &mut W) -> Result<(), Error
 }
 
 /// Writes the sheet of the boards.
-#[tactic(auto, using(page_layout::proofs::Walk::then_written, page_layout::proofs::Walk::failed_before))]
 pub fn write_board_sheet<W: Write>(
     names: Option<&[PairNames]>,
     analysis: &Analysis<'_>,

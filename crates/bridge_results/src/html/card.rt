@@ -181,7 +181,6 @@ fn standing_html(scoring: Scoring, standing: &Option<Standing>) -> PageText
 }
 
 /// Writes the names of a pair and its place.
-#[tactic(auto, using(page_layout::proofs::Walk::then_written, page_layout::proofs::Walk::failed_before))]
 fn write_top<W: Write>(
     scoring: Scoring,
     names: Option<&[PairNames]>,
@@ -249,7 +248,6 @@ fn write_card_head<W: Write>(scoring: Scoring, writer: &mut W) -> Result<(), Err
 }
 
 /// Writes the table of a card.
-#[tactic(auto, using(page_layout::proofs::Walk::then_written, page_layout::proofs::Walk::failed_before))]
 fn write_card_table<W: Write>(
     scoring: Scoring,
     names: Option<&[PairNames]>,
@@ -265,7 +263,6 @@ fn write_card_table<W: Write>(
 }
 
 /// Writes the card of a pair, from its lines.
-#[tactic(auto, using(page_layout::proofs::Walk::then_written, page_layout::proofs::Walk::failed_before))]
 pub fn write_card<W: Write>(
     scoring: Scoring,
     names: Option<&[PairNames]>,

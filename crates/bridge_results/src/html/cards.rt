@@ -118,7 +118,6 @@ fn write_sheet_start<W: Write>(writer: &mut W) -> Result<(), Error>
 }
 
 /// Writes the sheet of the score cards, and what ends the page.
-#[tactic(auto, using(page_layout::proofs::Walk::then_written, page_layout::proofs::Walk::failed_before))]
 pub fn write_card_sheet<W: Write>(
     names: Option<&[PairNames]>,
     session: &Session,

@@ -112,7 +112,6 @@ fn write_auction_head<W: Write>(play: &TablePlay, dealer: Seat, writer: &mut W) 
 }
 
 /// Writes the auction.
-#[tactic(auto, using(page_layout::proofs::Walk::then_written, page_layout::proofs::Walk::failed_before))]
 fn write_auction<W: Write>(play: &TablePlay, auction: &Auction, writer: &mut W) -> Result<(), Error>
     ensures { Written (stream W.contents writer.old writer.new) (auction_html play.now auction.now) result }
 {
@@ -122,7 +121,6 @@ fn write_auction<W: Write>(play: &TablePlay, auction: &Auction, writer: &mut W) 
 }
 
 /// Writes the auction and the play.
-#[tactic(auto, using(page_layout::proofs::Walk::then_written, page_layout::proofs::Walk::failed_before))]
 fn write_calls_and_cards<W: Write>(
     costs: &[u8],
     play: &TablePlay,
@@ -138,7 +136,6 @@ fn write_calls_and_cards<W: Write>(
 }
 
 /// Writes how a board was played at a table.
-#[tactic(auto, using(page_layout::proofs::Walk::then_written, page_layout::proofs::Walk::failed_before))]
 pub fn write_course<W: Write>(
     names: Option<&[PairNames]>,
     costs: &[u8],

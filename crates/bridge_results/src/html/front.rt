@@ -42,7 +42,6 @@ fn first_heading(second: &Option<Ranking>) -> &'static [u8]
 }
 
 /// Writes the rankings of the fields.
-#[tactic(auto, using(page_layout::proofs::Walk::then_written, page_layout::proofs::Walk::failed_before))]
 fn write_rankings<W: Write>(
     config: &Config,
     names: Option<&[PairNames]>,
@@ -68,7 +67,6 @@ fn write_top<W: Write>(config: &Config, writer: &mut W) -> Result<(), Error>
 }
 
 /// Writes the event and the rankings.
-#[tactic(auto, using(page_layout::proofs::Walk::then_written, page_layout::proofs::Walk::failed_before))]
 pub fn write_front<W: Write>(
     config: &Config,
     names: Option<&[PairNames]>,

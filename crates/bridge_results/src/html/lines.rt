@@ -236,7 +236,6 @@ fn write_lines_head<W: Write>(scoring: Scoring, writer: &mut W) -> Result<(), Er
 }
 
 /// Writes a traveller.
-#[tactic(auto, using(page_layout::proofs::Walk::then_written, page_layout::proofs::Walk::failed_before))]
 pub fn write_traveller<W: Write>(
     scoring: Scoring,
     available: u32,

@@ -94,7 +94,6 @@ fn write_head<W: Write>(writer: &mut W) -> Result<(), Error>
 }
 
 /// Writes the table of scores of so many plays.
-#[tactic(auto, using(page_layout::proofs::Walk::then_written, page_layout::proofs::Walk::failed_before))]
 fn write_bars<W: Write>(plays: u32, frequencies: &[Frequency], writer: &mut W) -> Result<(), Error>
     ensures { Written (stream W.contents writer.old writer.new) (often_head ++ (flat_map (often_row plays) frequencies.now ++ table_end Html)) result }
 {

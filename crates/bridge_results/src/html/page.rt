@@ -15,7 +15,6 @@ use evening_draft::PairNames;
 use std::io::{Error, Write};
 
 /// Writes the page with these rankings: the event, the rankings, the boards with how each table played them, and the score cards.
-#[tactic(auto, using(page_layout::proofs::Walk::then_written, page_layout::proofs::Walk::failed_before))]
 pub fn write_html<W: Write>(
     names: Option<&[PairNames]>,
     analysis: &Analysis<'_>,

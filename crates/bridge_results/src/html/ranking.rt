@@ -115,7 +115,6 @@ fn write_start<W: Write>(scoring: Scoring, heading: &[u8], writer: &mut W) -> Re
 }
 
 /// Writes a ranking.
-#[tactic(auto, using(page_layout::proofs::Walk::then_written, page_layout::proofs::Walk::failed_before))]
 fn write_pairs<W: Write>(
     scoring: Scoring,
     names: Option<&[PairNames]>,

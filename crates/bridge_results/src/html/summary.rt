@@ -98,7 +98,6 @@ fn write_summary_end<W: Write>(play: &TablePlay, writer: &mut W) -> Result<(), E
 }
 
 /// Writes the pairs, what came of the play, and where it was played.
-#[tactic(auto, using(page_layout::proofs::Walk::then_written, page_layout::proofs::Walk::failed_before))]
 pub fn write_summary<W: Write>(
     names: Option<&[PairNames]>,
     pairs: &[PairFields],

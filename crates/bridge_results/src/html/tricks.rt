@@ -195,7 +195,6 @@ fn write_play_end<W: Write>(play: &Play, writer: &mut W) -> Result<(), Error>
 }
 
 /// Writes the play.
-#[tactic(auto, using(page_layout::proofs::Walk::then_written, page_layout::proofs::Walk::failed_before))]
 fn write_play<W: Write>(costs: &[u8], play: &Play, writer: &mut W) -> Result<(), Error>
     ensures { Written (stream W.contents writer.old writer.new) (play_html costs.now play.now) result }
 {

@@ -171,7 +171,6 @@ fn write_line_rows<W: Write>(
 }
 
 /// Writes a traveller.
-#[tactic(auto, using(page_layout::proofs::Walk::then_written, page_layout::proofs::Walk::failed_before))]
 fn write_lines<W: Write>(
     format: Format,
     scoring: Scoring,
@@ -196,7 +195,6 @@ fn write_hands<W: Write>(format: Format, deal: Option<&Deal>, writer: &mut W) ->
 }
 
 /// Writes the hands of a board, and what could be made, if it is known.
-#[tactic(auto, using(page_layout::proofs::Walk::then_written, page_layout::proofs::Walk::failed_before))]
 pub fn write_deal<W: Write>(
     format: Format,
     board: BoardNumber,
@@ -220,7 +218,6 @@ pub fn write_end<W: Write>(format: Format, writer: &mut W) -> Result<(), Error>
 }
 
 /// Writes the traveller and the frequencies of a board.
-#[tactic(auto, using(page_layout::proofs::Walk::then_written, page_layout::proofs::Walk::failed_before))]
 fn write_tables<W: Write>(
     format: Format,
     scoring: Scoring,
@@ -236,7 +233,6 @@ fn write_tables<W: Write>(
 }
 
 /// Writes a board with the lines of its traveller.
-#[tactic(auto, using(page_layout::proofs::Walk::then_written, page_layout::proofs::Walk::failed_before))]
 pub fn write_board<W: Write>(
     format: Format,
     scoring: Scoring,

@@ -70,7 +70,6 @@ fn write_frequency_rows<W: Write>(
 }
 
 /// Writes frequencies.
-#[tactic(auto, using(page_layout::proofs::Walk::then_written, page_layout::proofs::Walk::failed_before))]
 fn write_frequencies<W: Write>(
     format: Format,
     scoring: Scoring,

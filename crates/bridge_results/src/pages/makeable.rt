@@ -143,7 +143,6 @@ fn write_table<W: Write>(format: Format, table: &TrickTable, writer: &mut W) -> 
 }
 
 /// Writes the tricks of all declarers, and par.
-#[tactic(auto, using(page_layout::proofs::Walk::then_written, page_layout::proofs::Walk::failed_before))]
 fn write_makeable<W: Write>(
     format: Format,
     board: BoardNumber,

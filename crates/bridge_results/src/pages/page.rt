@@ -76,7 +76,6 @@ fn write_page_end<W: Write>(format: Format, writer: &mut W) -> Result<(), Error>
 }
 
 /// Writes the rankings of the fields.
-#[tactic(auto, using(page_layout::proofs::Walk::then_written, page_layout::proofs::Walk::failed_before))]
 fn write_rankings<W: Write>(
     format: Format,
     names: Option<&[PairNames]>,
@@ -92,7 +91,6 @@ fn write_rankings<W: Write>(
 }
 
 /// Writes the boards and the score cards, and the end of the page.
-#[tactic(auto, using(page_layout::proofs::Walk::then_written, page_layout::proofs::Walk::failed_before))]
 fn write_sheets<W: Write>(
     format: Format,
     names: Option<&[PairNames]>,
@@ -110,7 +108,6 @@ fn write_sheets<W: Write>(
 }
 
 /// Writes the event and the rankings.
-#[tactic(auto, using(page_layout::proofs::Walk::then_written, page_layout::proofs::Walk::failed_before))]
 fn write_front<W: Write>(
     format: Format,
     names: Option<&[PairNames]>,
@@ -126,7 +123,6 @@ fn write_front<W: Write>(
 }
 
 /// Writes the page with these rankings.
-#[tactic(auto, using(page_layout::proofs::Walk::then_written, page_layout::proofs::Walk::failed_before))]
 fn write_page<W: Write>(
     names: Option<&[PairNames]>,
     boards: &[Option<Makeable>],

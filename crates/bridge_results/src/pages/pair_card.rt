@@ -199,7 +199,6 @@ fn write_end<W: Write>(
 }
 
 /// Writes the card of a pair, from its lines.
-#[tactic(auto, using(page_layout::proofs::Walk::then_written, page_layout::proofs::Walk::failed_before))]
 pub fn write_card<W: Write>(
     format: Format,
     scoring: Scoring,

@@ -139,7 +139,6 @@ fn write_contracts<W: Write>(
 }
 
 /// Writes a par score and the contracts that reach it.
-#[tactic(auto, using(page_layout::proofs::Walk::then_written, page_layout::proofs::Walk::failed_before))]
 fn write_par<W: Write>(
     format: Format,
     score: i32,

@@ -170,7 +170,6 @@ pub fn write_end<W: Write>(format: Format, writer: &mut W) -> Result<(), Error>
 }
 
 /// Writes the ranking of a field, with the names of a list or the configuration's.
-#[tactic(auto, using(page_layout::proofs::Walk::then_written, page_layout::proofs::Walk::failed_before))]
 pub fn write_field<W: Write>(
     format: Format,
     scoring: Scoring,

@@ -99,7 +99,6 @@ fn write_boards<W: Write>(
 }
 
 /// Writes the sheet of the boards.
-#[tactic(auto, using(page_layout::proofs::Walk::then_written, page_layout::proofs::Walk::failed_before))]
 pub fn write_board_sheet<W: Write>(
     format: Format,
     analysis: &[Option<Makeable>],
@@ -190,7 +189,6 @@ fn write_all_cards<W: Write>(
 }
 
 /// Writes the sheet of the score cards.
-#[tactic(auto, using(page_layout::proofs::Walk::then_written, page_layout::proofs::Walk::failed_before))]
 pub fn write_card_sheet<W: Write>(
     format: Format,
     names: Option<&[PairNames]>,

@@ -166,7 +166,6 @@ fn write_titles<W: Write>(writer: &mut W) -> Result<(), Error>
 }
 
 /// Writes titles and rows.
-#[tactic(auto, using(page_layout::proofs::Walk::then_written, page_layout::proofs::Walk::failed_before))]
 fn write_table<W: Write>(
     session: &Session,
     results: &Results<'_>,

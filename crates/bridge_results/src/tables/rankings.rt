@@ -174,7 +174,6 @@ fn write_titles<W: Write>(writer: &mut W) -> Result<(), Error>
 }
 
 /// Writes titles and rows.
-#[tactic(auto, using(page_layout::proofs::Walk::then_written, page_layout::proofs::Walk::failed_before))]
 fn write_table<W: Write>(
     config: &Config,
     first: &Option<Ranking>,

@@ -1,4 +1,4 @@
-use Rattle.page_layout.proofs.Walk.{then_written}
+use Rattle.page_layout.proofs.Walk.{then_written, failed_before}
 use Rattle.bridge_results.proofs.PageParts.{then_failed}
 use Rattle.bridge_results.proofs.pages.sheets.write_card_sheet.Goals as goal
 
@@ -10,3 +10,6 @@ pub returns : goal.returns
 returns g c =
     then_written _ _ _ _ _ _ c.in_ok-write_sheet_head.ensures
     (then_written _ _ _ _ _ _ c.in_ok-write_all_cards.ensures c.write_sheet_end.ensures)
+
+pub returns-in_err-write_sheet_head : goal.returns-in_err-write_sheet_head
+returns-in_err-write_sheet_head g c = failed_before _ _ _ _ _ c.from_residual.ensures.0 c.in_err-write_sheet_head.ensures
