@@ -207,7 +207,7 @@ fn push_card_titles(text: &mut PageText, scoring: Scoring)
             Format::Html,
             &SHARE_CARD_COLUMNS,
             &[
-                b"Board".as_slice(),
+                b"Board",
                 b"Side",
                 b"Against",
                 b"Names",
@@ -223,7 +223,7 @@ fn push_card_titles(text: &mut PageText, scoring: Scoring)
             Format::Html,
             &SUM_CARD_COLUMNS,
             &[
-                b"Board".as_slice(),
+                b"Board",
                 b"Side",
                 b"Against",
                 b"Names",

@@ -67,7 +67,7 @@ fn write_calls<W: Write>(calls: &[Call], line: usize, writer: &mut W) -> Result<
         fourth.as_str().as_bytes(),
     ];
     let mut text = PageText::new();
-    let targets = [b"".as_slice(), b"", b"", b""];
+    let targets: [&[u8]; 4] = [b"", b"", b"", b""];
     push_linked_row(&mut text, &CALL_COLUMNS, &targets, &cells);
     write_text(writer, text.as_slice())
 }

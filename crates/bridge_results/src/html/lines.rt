@@ -174,7 +174,7 @@ fn push_share_titles(text: &mut PageText)
         Format::Html,
         &SHARE_LINE_COLUMNS,
         &[
-            b"NS".as_slice(),
+            b"NS",
             b"EW",
             b"Contract",
             b"By",
@@ -198,7 +198,7 @@ fn push_sum_titles(text: &mut PageText)
         Format::Html,
         &SUM_LINE_COLUMNS,
         &[
-            b"NS".as_slice(),
+            b"NS",
             b"EW",
             b"Contract",
             b"By",

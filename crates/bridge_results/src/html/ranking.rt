@@ -38,8 +38,8 @@ fn share_row(names: Option<&[PairNames]>, pairs: &[PairFields], ranked: &Ranked)
         available.as_str().as_bytes(),
         percent.as_str().as_bytes(),
     ];
-    let targets = [
-        b"".as_slice(),
+    let targets: [&[u8]; 6] = [
+        b"",
         target.as_str().as_bytes(),
         b"",
         b"",
@@ -64,7 +64,7 @@ fn sum_row(names: Option<&[PairNames]>, pairs: &[PairFields], ranked: &Ranked) -
         shown.as_str().as_bytes(),
         value.as_str().as_bytes(),
     ];
-    let targets = [b"".as_slice(), target.as_str().as_bytes(), b"", b""];
+    let targets: [&[u8]; 4] = [b"", target.as_str().as_bytes(), b"", b""];
     linked_row(&SUM_COLUMNS, &targets, &cells)
 }
 

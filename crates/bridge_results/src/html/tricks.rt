@@ -109,7 +109,7 @@ fn write_trick<W: Write>(
         winner_cell(play, trick).as_bytes(),
     ];
     let mut text = PageText::new();
-    let targets = [b"".as_slice(), b"", b"", b"", b"", b"", b""];
+    let targets: [&[u8]; 7] = [b"", b"", b"", b"", b"", b"", b""];
     push_linked_row(&mut text, &TRICK_COLUMNS, &targets, &cells);
     write_text(writer, text.as_slice())
 }
@@ -129,8 +129,8 @@ fn write_tricks<W: Write>(play: &Play, costs: &[u8], writer: &mut W) -> Result<(
 fn write_tricks_head<W: Write>(writer: &mut W) -> Result<(), Error>
     ensures { Written (stream W.contents writer.old writer.new) tricks_head result }
 {
-    let titles = [
-        b"Trick".as_slice(),
+    let titles: [&[u8]; 7] = [
+        b"Trick",
         b"Led by",
         b"1st",
         b"2nd",

@@ -127,8 +127,8 @@ fn write_line<W: Write>(
 fn write_line_titles<W: Write>(format: Format, writer: &mut W) -> Result<(), Error>
     ensures { Written (stream W.contents writer.old writer.new) (line_titles format) result }
 {
-    let titles = [
-        b"Round".as_slice(),
+    let titles: [&[u8]; 11] = [
+        b"Round",
         b"Table",
         b"NS",
         b"EW",

@@ -85,7 +85,7 @@ fn push_middle_row(text: &mut PageText, format: Format, hand: CardSet, suit: Sui
         text,
         format,
         &HAND_COLUMNS,
-        &[b"".as_slice(), cell.as_str().as_bytes(), b"".as_slice()],
+        &[b"", cell.as_str().as_bytes(), b""],
     );
 }
 
@@ -103,7 +103,7 @@ fn push_sides_row(text: &mut PageText, format: Format, west: CardSet, east: Card
         &HAND_COLUMNS,
         &[
             left.as_str().as_bytes(),
-            b"".as_slice(),
+            b"",
             right.as_str().as_bytes(),
         ],
     );

@@ -49,7 +49,7 @@ fn write_frequency_titles<W: Write>(format: Format, writer: &mut W) -> Result<()
         &mut text,
         format,
         &FREQUENCY_COLUMNS,
-        &[b"Score".as_slice(), b"Times", b"NS gain", b"EW gain"],
+        &[b"Score", b"Times", b"NS gain", b"EW gain"],
     );
     write_text(writer, text.as_slice())
 }

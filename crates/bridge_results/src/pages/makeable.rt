@@ -103,7 +103,7 @@ fn plain_head() -> PageText
     ensures head { result.items ≡ makeable_head Plain }
     ensures short { array_vec_len result ≤ 1000 }
 {
-    let titles = [b"Can be made".as_slice(), b"C", b"D", b"H", b"S", b"NT"];
+    let titles: [&[u8]; 6] = [b"Can be made", b"C", b"D", b"H", b"S", b"NT"];
     let mut text = PageText::new();
     push_titles(&mut text, Format::Plain, &MAKEABLE_COLUMNS, &titles);
     text

@@ -54,8 +54,8 @@ fn write_head<W: Write>(
     ensures { Written (stream W.contents writer.old writer.new) (card_head format names.entry (map pair_of pairs.now) pair) result }
 {
     let heading = pair_words(names, pairs, pair);
-    let titles = [
-        b"Round".as_slice(),
+    let titles: [&[u8]; 9] = [
+        b"Round",
         b"Board",
         b"Side",
         b"Against",

@@ -1,0 +1,13 @@
+use Rattle.bridge_results.proofs.pages.ranking.write_head.Goals as goal
+
+pub returns : goal.returns
+returns g c =
+    rw (
+      c.as_slice.ensures.value,
+      c.push_ranked_titles.ensures,
+      c.push_table_start.ensures.text,
+      c.push_heading.ensures.text,
+      c.field_words.ensures.text,
+      c.push_section_start.ensures.text,
+      c.new-text.ensures,
+    ) at c.write_text.ensures
