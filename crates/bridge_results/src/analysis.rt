@@ -8,7 +8,7 @@ use arrayvec::ArrayVec;
 use bridge_cards::{BoardNumber, DECK};
 
 /// What the cards of a play cost.
-#[derive(Debug, Drop)]
+#[derive(Drop)]
 pub struct PlayCosts {
     /// The round.
     pub round: u8,

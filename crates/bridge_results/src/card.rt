@@ -19,7 +19,7 @@ use session_rules::Outcome;
 pub const MOST_CARD_LINES: usize = 36;
 
 /// A line of a score card.
-#[derive(Clone, Copy, Debug, PartialEq, Eq)]
+#[derive(Clone, Copy)]
 pub struct CardLine {
     /// The board.
     pub board: BoardNumber,

@@ -15,7 +15,7 @@ use bridge_ranking::{Game, PlayResult};
 
 /// What a play is compared by, and what each side gained by it against the other scores of its board: matchpoints in tenths,
 /// or cross-IMPs.
-#[derive(Clone, Copy, Debug, PartialEq, Eq)]
+#[derive(Clone, Copy)]
 pub struct Comparison {
     /// The score of North and South, or the averages.
     pub result: PlayResult,

@@ -8,7 +8,7 @@ use bridge_movement::Row;
 use session_rules::Outcome;
 
 /// A play of a board that is finished, void or adjusted.
-#[derive(Clone, Copy, Debug, PartialEq, Eq)]
+#[derive(Clone, Copy)]
 pub struct TablePlay {
     /// The round, the table, and the pairs that met there.
     pub row: Row,

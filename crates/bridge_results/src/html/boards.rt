@@ -82,7 +82,6 @@ fn write_boards<W: Write>(
 }
 
 /// Writes what begins the sheet of the boards.
-#[tactic(auto, unfolding(crate::specs::HtmlPage::boards_start))]
 fn write_sheet_start<W: Write>(writer: &mut W) -> Result<(), Error>
     ensures { Written (stream W.contents writer.old writer.new) boards_start result }
 {

@@ -107,7 +107,6 @@ fn write_sheet_end<W: Write>(format: Format, writer: &mut W) -> Result<(), Error
 }
 
 /// Writes what begins the sheet of the score cards.
-#[tactic(auto, unfolding(crate::specs::HtmlPage::cards_start))]
 fn write_sheet_start<W: Write>(writer: &mut W) -> Result<(), Error>
     ensures { Written (stream W.contents writer.old writer.new) cards_start result }
 {

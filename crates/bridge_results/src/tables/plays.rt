@@ -155,7 +155,6 @@ fn write_all_rows<W: Write>(
 }
 
 /// Writes what stands above the rows.
-#[tactic(auto, unfolding(crate::specs::TablesText::play_titles))]
 fn write_titles<W: Write>(writer: &mut W) -> Result<(), Error>
     ensures { Written (stream W.contents writer.old writer.new) play_titles result }
 {

@@ -163,7 +163,6 @@ fn write_field<W: Write>(
 }
 
 /// Writes what stands above the rows.
-#[tactic(auto, unfolding(crate::specs::TablesText::ranking_titles))]
 fn write_titles<W: Write>(writer: &mut W) -> Result<(), Error>
     ensures { Written (stream W.contents writer.old writer.new) ranking_titles result }
 {
