@@ -12,13 +12,13 @@ use crate::html::card_rows::write_rows;
 use crate::html::columns::{SHARE_CARD_COLUMNS, SUM_CARD_COLUMNS};
 use crate::html::links::pair_target;
 use crate::pages::pair_card::pair_words;
-use crate::pages::ranking::write_end;
+use crate::pages::ranking::{imps_cell, points_cell, write_end};
 use arrayvec::ArrayString;
 use bridge_config::PairFields;
 use bridge_score::{MOST_LINES, Ranked, Scoring, share_percent};
 use bridge_session::Ranking;
 use evening_draft::PairNames;
-use line_text::{number_text, percent_text, signed_text, tenths_text, write_text};
+use line_text::{number_text, percent_text, tenths_text, write_text};
 use page_layout::{Format, Level, PageText, push_bytes, push_heading, push_paragraph, push_titles};
 use std::io::{Error, Write};
 
@@ -106,7 +106,7 @@ fn share_words(ranked: &Ranked) -> ArrayString<80>
     ensures short { length result.bytes ≤ 66 }
 {
     let mut text = ArrayString::new();
-    text.push_str(tenths_text(u64::from(ranked.value.unsigned_abs())).as_str());
+    text.push_str(points_cell(ranked).as_str());
     text.push_str(" of ");
     text.push_str(tenths_text(u64::from(ranked.available)).as_str());
     text.push_str(", ");
@@ -121,7 +121,7 @@ fn imp_words(ranked: &Ranked) -> ArrayString<80>
     ensures short { length result.bytes ≤ 66 }
 {
     let mut text = ArrayString::new();
-    text.push_str(signed_text(i64::from(ranked.value)).as_str());
+    text.push_str(imps_cell(ranked).as_str());
     text.push_str(" IMPs");
     text
 }

@@ -9,8 +9,8 @@ use crate::card::CardLine;
 use crate::html::cells::{percent_cell, result_cell};
 use crate::html::columns::{SHARE_CARD_COLUMNS, SUM_CARD_COLUMNS};
 use crate::html::links::{board_target, linked_row, pair_target};
-use crate::pages::cells::{declarer_cell, gain_cell, score_cell};
-use crate::pages::pair_card::{counted_gain, side_words};
+use crate::pages::cells::{declarer_cell, score_cell};
+use crate::pages::pair_card::{counted_gain, line_gain, side_words};
 use crate::pages::shown::shown_pair;
 use bridge_cards::Scoring;
 use bridge_config::PairFields;
@@ -28,9 +28,8 @@ fn share_line(names: Option<&[PairNames]>, pairs: &[PairFields], line: &CardLine
     let shown = shown_pair(names, pairs, line.opponents);
     let made = result_cell(line.outcome);
     let score = score_cell(line.outcome, line.score);
-    let counted = counted_gain(line.outcome, line.gain);
-    let gain = gain_cell(Scoring::MatchPoints, counted);
-    let percent = percent_cell(counted, line.available);
+    let gain = line_gain(Scoring::MatchPoints, line);
+    let percent = percent_cell(counted_gain(line.outcome, line.gain), line.available);
     let cells = [
         board.as_str().as_bytes(),
         side_words(line.side),
@@ -66,7 +65,7 @@ fn sum_line(names: Option<&[PairNames]>, pairs: &[PairFields], line: &CardLine) 
     let shown = shown_pair(names, pairs, line.opponents);
     let made = result_cell(line.outcome);
     let score = score_cell(line.outcome, line.score);
-    let gain = gain_cell(Scoring::Imps, counted_gain(line.outcome, line.gain));
+    let gain = line_gain(Scoring::Imps, line);
     let cells = [
         board.as_str().as_bytes(),
         side_words(line.side),

@@ -10,12 +10,12 @@ ghost use Rattle.bridge_results.specs.HtmlPage.{html_ranked, html_ranking_start,
 
 use crate::html::links::{linked_row, pair_target};
 use crate::pages::columns::{SHARE_COLUMNS, SUM_COLUMNS};
-use crate::pages::ranking::{push_ranked_titles, write_end};
+use crate::pages::ranking::{imps_cell, points_cell, push_ranked_titles, write_end};
 use crate::pages::shown::shown_pair;
 use bridge_config::{Config, PairFields};
 use bridge_score::{Ranked, Scoring, share_percent};
 use evening_draft::PairNames;
-use line_text::{number_text, percent_text, signed_text, tenths_text, write_text};
+use line_text::{number_text, percent_text, tenths_text, write_text};
 use page_layout::{Format, PageText, push_bytes};
 use std::io::{Error, Write};
 
@@ -26,7 +26,7 @@ fn share_row(names: Option<&[PairNames]>, pairs: &[PairFields], ranked: &Ranked)
     let place = number_text(u32::from(ranked.place));
     let pair = number_text(u32::from(ranked.pair));
     let shown = shown_pair(names, pairs, ranked.pair);
-    let value = tenths_text(u64::from(ranked.value.unsigned_abs()));
+    let value = points_cell(ranked);
     let available = tenths_text(u64::from(ranked.available));
     let percent = percent_text(share_percent(ranked));
     let target = pair_target(ranked.pair);
@@ -38,14 +38,7 @@ fn share_row(names: Option<&[PairNames]>, pairs: &[PairFields], ranked: &Ranked)
         available.as_str().as_bytes(),
         percent.as_str().as_bytes(),
     ];
-    let targets: [&[u8]; 6] = [
-        b"",
-        target.as_str().as_bytes(),
-        b"",
-        b"",
-        b"",
-        b"",
-    ];
+    let targets: [&[u8]; 6] = [b"", target.as_str().as_bytes(), b"", b"", b"", b""];
     linked_row(&SHARE_COLUMNS, &targets, &cells)
 }
 
@@ -56,7 +49,7 @@ fn sum_row(names: Option<&[PairNames]>, pairs: &[PairFields], ranked: &Ranked) -
     let place = number_text(u32::from(ranked.place));
     let pair = number_text(u32::from(ranked.pair));
     let shown = shown_pair(names, pairs, ranked.pair);
-    let value = signed_text(i64::from(ranked.value));
+    let value = imps_cell(ranked);
     let target = pair_target(ranked.pair);
     let cells = [
         place.as_str().as_bytes(),

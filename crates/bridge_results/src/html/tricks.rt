@@ -130,13 +130,7 @@ fn write_tricks_head<W: Write>(writer: &mut W) -> Result<(), Error>
     ensures { Written (stream W.contents writer.old writer.new) tricks_head result }
 {
     let titles: [&[u8]; 7] = [
-        b"Trick",
-        b"Led by",
-        b"1st",
-        b"2nd",
-        b"3rd",
-        b"4th",
-        b"Won by",
+        b"Trick", b"Led by", b"1st", b"2nd", b"3rd", b"4th", b"Won by",
     ];
     let mut text = PageText::new();
     push_bytes(

@@ -101,11 +101,7 @@ fn push_sides_row(text: &mut PageText, format: Format, west: CardSet, east: Card
         text,
         format,
         &HAND_COLUMNS,
-        &[
-            left.as_str().as_bytes(),
-            b"",
-            right.as_str().as_bytes(),
-        ],
+        &[left.as_str().as_bytes(), b"", right.as_str().as_bytes()],
     );
 }
 

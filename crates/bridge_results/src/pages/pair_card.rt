@@ -3,6 +3,7 @@ ghost use Rattle.std.specs.Prelude.{◌≡◌, ◌≤◌, length, map, flat_map,
 ghost use Rattle.line_text.specs.Streams.{stream, Written};
 ghost use Rattle.bridge_score.specs.Comparison.{int_sum_by};
 ghost use Rattle.bridge_config.specs.ConfigValue.{pair_of};
+ghost use Rattle.bridge_results.specs.PlayCells.{gain_cell};
 ghost use Rattle.bridge_results.specs.CardText.{pair_words, card_head, side_words, counted_gain, card_row, total_words, card_end, score_card_text};
 
 use crate::card::CardLine;
@@ -15,7 +16,7 @@ use arrayvec::ArrayString;
 use bridge_cards::{Scoring, Side};
 use bridge_config::PairFields;
 use evening_draft::PairNames;
-use line_text::{number_text, tenths_text, write_text};
+use line_text::{NumberText, number_text, tenths_text, write_text};
 use page_layout::{
     Format, Level, PageText, Section, push_heading, push_paragraph, push_row, push_section_end,
     push_section_start, push_table_end, push_table_start, push_titles,
@@ -94,6 +95,14 @@ pub fn counted_gain(outcome: Outcome, gain: i32) -> Option<i32>
     }
 }
 
+/// What the pair gained by a line, if anything can be.
+pub fn line_gain(scoring: Scoring, line: &CardLine) -> NumberText
+    ensures text { result.bytes ≡ gain_cell scoring (counted_gain line.now.outcome line.now.gain) }
+    ensures short { length result.bytes ≤ 22 }
+{
+    gain_cell(scoring, counted_gain(line.outcome, line.gain))
+}
+
 /// Writes the row of a play.
 fn write_row<W: Write>(
     format: Format,
@@ -109,7 +118,7 @@ fn write_row<W: Write>(
     let contract = contract_cell(line.outcome);
     let tricks = tricks_cell(line.outcome);
     let score = score_cell(line.outcome, line.score);
-    let gain = gain_cell(scoring, counted_gain(line.outcome, line.gain));
+    let gain = line_gain(scoring, line);
     let cells = [
         round.as_str().as_bytes(),
         board.as_str().as_bytes(),

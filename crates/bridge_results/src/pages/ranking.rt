@@ -1,5 +1,7 @@
 //! The ranking of a field, with the names of the pairs.
-ghost use Rattle.std.specs.Prelude.{◌≡◌, ◌≤◌, ◌++◌, length, map, flat_map};
+ghost use Rattle.std.specs.Prelude.{◌≡◌, ◌≤◌, ◌++◌, length, map, flat_map, unsigned_abs};
+ghost use Rattle.std.specs.Fmt.{signed_decimal};
+ghost use Rattle.line_text.specs.Decimals.{tenths_text as tenths};
 ghost use Rattle.line_text.specs.Streams.{stream, Written};
 ghost use Rattle.bridge_config.specs.ConfigValue.{pair_of};
 ghost use Rattle.page_layout.specs.Page.{section_end};
@@ -12,12 +14,28 @@ use bridge_config::PairFields;
 use bridge_ranking::Field;
 use bridge_score::{Ranked, Scoring, share_percent};
 use evening_draft::PairNames;
-use line_text::{number_text, percent_text, signed_text, tenths_text, write_text};
+use line_text::{NumberText, number_text, percent_text, signed_text, tenths_text, write_text};
 use page_layout::{
     Format, Level, PageText, Section, push_heading, push_row, push_section_end, push_section_start,
     push_table_end, push_table_start, push_titles,
 };
 use std::io::{Error, Write};
+
+/// The matchpoints of a pair.
+pub fn points_cell(ranked: &Ranked) -> NumberText
+    ensures text { result.bytes ≡ tenths (unsigned_abs ranked.now.value) }
+    ensures short { length result.bytes ≤ 22 }
+{
+    tenths_text(u64::from(ranked.value.unsigned_abs()))
+}
+
+/// The IMPs of a pair.
+pub fn imps_cell(ranked: &Ranked) -> NumberText
+    ensures text { result.bytes ≡ signed_decimal ranked.now.value }
+    ensures short { length result.bytes ≤ 20 }
+{
+    signed_text(i64::from(ranked.value))
+}
 
 /// The row of a pair by matchpoints.
 fn share_row(format: Format, names: &str, ranked: &Ranked) -> PageText
@@ -26,7 +44,7 @@ fn share_row(format: Format, names: &str, ranked: &Ranked) -> PageText
 {
     let place = number_text(u32::from(ranked.place));
     let pair = number_text(u32::from(ranked.pair));
-    let value = tenths_text(u64::from(ranked.value.unsigned_abs()));
+    let value = points_cell(ranked);
     let available = tenths_text(u64::from(ranked.available));
     let percent = percent_text(share_percent(ranked));
     let cells = [
@@ -49,7 +67,7 @@ fn sum_row(format: Format, names: &str, ranked: &Ranked) -> PageText
 {
     let place = number_text(u32::from(ranked.place));
     let pair = number_text(u32::from(ranked.pair));
-    let value = signed_text(i64::from(ranked.value));
+    let value = imps_cell(ranked);
     let cells = [
         place.as_str().as_bytes(),
         pair.as_str().as_bytes(),

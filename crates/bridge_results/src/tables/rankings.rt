@@ -9,13 +9,14 @@ ghost use Rattle.bridge_ranking.specs.declared.field.Field.TheVariants.{First, S
 ghost use Rattle.bridge_results.specs.RankingText.{ranked_items};
 ghost use Rattle.bridge_results.specs.TablesText.{field_number, pair_fields, value_fields, ranked_fields, field_rows, ranking_titles, rankings_table, WritesRankings};
 
+use crate::pages::ranking::{imps_cell, points_cell};
 use crate::results::Results;
 use crate::tables::fields::{push_field, push_number};
 use bridge_config::{Config, PairFields, player_name};
 use bridge_ranking::Field;
 use bridge_score::{Ranked, Scoring, share_percent};
 use bridge_session::{Ranking, Session};
-use line_text::{percent_text, signed_text, tenths_text, write_text};
+use line_text::{percent_text, tenths_text, write_text};
 use page_layout::{PageText, push_bytes};
 use std::io::{Error, Write};
 
@@ -53,7 +54,7 @@ fn share_fields(ranked: &Ranked) -> PageText
     ensures text { result.items ≡ value_fields MatchPoints ranked.now }
     ensures short { array_vec_len result ≤ 300 }
 {
-    let value = tenths_text(u64::from(ranked.value.unsigned_abs()));
+    let value = points_cell(ranked);
     let available = tenths_text(u64::from(ranked.available));
     let percent = percent_text(share_percent(ranked));
     let mut text = PageText::new();
@@ -69,7 +70,7 @@ fn sum_fields(ranked: &Ranked) -> PageText
     ensures text { result.items ≡ value_fields Imps ranked.now }
     ensures short { array_vec_len result ≤ 300 }
 {
-    let value = signed_text(i64::from(ranked.value));
+    let value = imps_cell(ranked);
     let mut text = PageText::new();
     push_field(&mut text, value.as_str().as_bytes());
     push_bytes(&mut text, b",,");

@@ -2,7 +2,8 @@ use Rattle.page_layout.proofs.Walk.{then_written, failed_before}
 use Rattle.bridge_results.proofs.html.board.write_deal.Goals as goal
 
 pub returns-in_err-write_start : goal.returns-in_err-write_start
-returns-in_err-write_start g c = failed_before _ _ _ _ _ c.from_residual.ensures.0 c.in_err-write_start.ensures
+returns-in_err-write_start g c =
+    failed_before _ _ _ _ _ c.from_residual.ensures.0 c.in_err-write_start.ensures
 
 pub returns : goal.returns
 returns g c = then_written _ _ _ _ _ _ c.in_ok-write_start.ensures c.write_hands_of.ensures

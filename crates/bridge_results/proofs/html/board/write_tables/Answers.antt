@@ -2,7 +2,8 @@ use Rattle.page_layout.proofs.Walk.{then_written, failed_before}
 use Rattle.bridge_results.proofs.html.board.write_tables.Goals as goal
 
 pub returns-in_err-write_traveller : goal.returns-in_err-write_traveller
-returns-in_err-write_traveller g c = failed_before _ _ _ _ _ c.from_residual.ensures.0 c.in_err-write_traveller.ensures
+returns-in_err-write_traveller g c =
+    failed_before _ _ _ _ _ c.from_residual.ensures.0 c.in_err-write_traveller.ensures
 
 pub returns : goal.returns
 returns g c = then_written _ _ _ _ _ _ c.in_ok-write_traveller.ensures c.write_often.ensures

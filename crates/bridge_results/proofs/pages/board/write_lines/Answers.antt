@@ -2,10 +2,15 @@ use Rattle.page_layout.proofs.Walk.{then_written, failed_before}
 use Rattle.bridge_results.proofs.pages.board.write_lines.Goals as goal
 
 pub returns-in_err-write_line_titles : goal.returns-in_err-write_line_titles
-returns-in_err-write_line_titles g c = failed_before _ _ _ _ _ c.from_residual.ensures.0 c.in_err-write_line_titles.ensures
+returns-in_err-write_line_titles g c =
+    failed_before _ _ _ _ _ c.from_residual.ensures.0 c.in_err-write_line_titles.ensures
 
 pub returns-in_err-write_line_rows : goal.returns-in_err-write_line_rows
-returns-in_err-write_line_rows g c = then_written _ _ _ _ _ _ c.in_ok-write_line_titles.ensures (failed_before _ _ _ _ _ c.from_residual-in_err-write_line_rows.ensures.0 c.in_err-write_line_rows.ensures)
+returns-in_err-write_line_rows g c =
+    then_written _ _ _ _ _ _ c.in_ok-write_line_titles.ensures
+    (failed_before _ _ _ _ _ c.from_residual-in_err-write_line_rows.ensures.0 c.in_err-write_line_rows.ensures)
 
 pub returns : goal.returns
-returns g c = then_written _ _ _ _ _ _ c.in_ok-write_line_titles.ensures (then_written _ _ _ _ _ _ c.in_ok-write_line_rows.ensures c.write_table_end.ensures)
+returns g c =
+    then_written _ _ _ _ _ _ c.in_ok-write_line_titles.ensures
+    (then_written _ _ _ _ _ _ c.in_ok-write_line_rows.ensures c.write_table_end.ensures)

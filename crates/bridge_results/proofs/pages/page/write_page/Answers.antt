@@ -6,4 +6,5 @@ returns-in_err-write_front g c =
     failed_before _ _ _ _ _ c.from_residual.ensures.0 (rw c.config.ensures at c.in_err-write_front.ensures)
 
 pub returns : goal.returns
-returns g c = then_written _ _ _ _ _ _ (rw c.config.ensures at c.in_ok-write_front.ensures) c.write_sheets.ensures
+returns g c =
+    then_written _ _ _ _ _ _ (rw c.config.ensures at c.in_ok-write_front.ensures) c.write_sheets.ensures

@@ -2,7 +2,8 @@ use Rattle.page_layout.proofs.Walk.{then_written, failed_before}
 use Rattle.bridge_results.proofs.pages.page.write_rankings.Goals as goal
 
 pub returns-in_err-write_ranked : goal.returns-in_err-write_ranked
-returns-in_err-write_ranked g c = failed_before _ _ _ _ _ c.from_residual.ensures.0 c.in_err-write_ranked.ensures
+returns-in_err-write_ranked g c =
+    failed_before _ _ _ _ _ c.from_residual.ensures.0 c.in_err-write_ranked.ensures
 
 pub returns : goal.returns
 returns g c = then_written _ _ _ _ _ _ c.in_ok-write_ranked.ensures c.write_ranked-2.ensures

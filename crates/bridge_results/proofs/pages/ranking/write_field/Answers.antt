@@ -5,7 +5,11 @@ pub returns-in_err-write_head : goal.returns-in_err-write_head
 returns-in_err-write_head g c = failed_before _ _ _ _ _ c.from_residual.ensures.0 c.in_err-write_head.ensures
 
 pub returns-in_err-write_rows : goal.returns-in_err-write_rows
-returns-in_err-write_rows g c = then_written _ _ _ _ _ _ c.in_ok-write_head.ensures (failed_before _ _ _ _ _ c.from_residual-in_err-write_rows.ensures.0 c.in_err-write_rows.ensures)
+returns-in_err-write_rows g c =
+    then_written _ _ _ _ _ _ c.in_ok-write_head.ensures
+    (failed_before _ _ _ _ _ c.from_residual-in_err-write_rows.ensures.0 c.in_err-write_rows.ensures)
 
 pub returns : goal.returns
-returns g c = then_written _ _ _ _ _ _ c.in_ok-write_head.ensures (then_written _ _ _ _ _ _ c.in_ok-write_rows.ensures c.write_end.ensures)
+returns g c =
+    then_written _ _ _ _ _ _ c.in_ok-write_head.ensures
+    (then_written _ _ _ _ _ _ c.in_ok-write_rows.ensures c.write_end.ensures)
