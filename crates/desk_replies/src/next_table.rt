@@ -47,12 +47,11 @@ fn push_meeting(text: &mut StandingText, fields: &ConfigFields, seating: Result<
     ensures line { text.new.bytes ≡ text.old.bytes ++ lines_text (meeting_lines (configuration_of fields.now) seating) }
     ensures room { array_string_len text.new ≤ array_string_len text.old + MEETS_BYTES }
 {
-    match seating {
-        Ok(seating) => match fields.movement.rows().get(seating.row) {
-            Some(row) => push_row(text, fields, *row),
-            None => {}
-        },
-        Err(_) => {}
+    let Ok(seating) = seating else {
+        return;
+    };
+    if let Some(row) = fields.movement.rows().get(seating.row) {
+        push_row(text, fields, *row);
     }
 }
 
@@ -65,7 +64,8 @@ pub(crate) fn push_next(text: &mut StandingText, session: &Session, key: Key)
     let config = session.config();
     let fields = config.fields();
     let round = session.round();
-    if round < fields.movement.shape().rounds {
-        push_meeting(text, fields, seat_by(config, round + 1, key));
+    if round >= fields.movement.shape().rounds {
+        return;
     }
+    push_meeting(text, fields, seat_by(config, round + 1, key));
 }
