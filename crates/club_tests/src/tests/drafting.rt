@@ -184,45 +184,53 @@ fn expect_parts(rt: &impl Abort, text: &[u8], parts: &[&str]) {
     }
 }
 
-/// The evening of a list is made: its disk, its configuration and its slips.
-fn expect_made(rt: &HostRuntime) -> Result<(), Fail> {
-    let due = (3, "formatted\n", UNHEARD);
-    expect_run(rt, rt.alloc(), &EVENING_WORDS, "", due);
-    let config = fs::read(rt, CONFIG)?;
-    expect_eq(rt, config.as_slice(), EVENING.as_bytes(), CONFIG);
-    let slips = fs::read(rt, SLIPS)?;
-    expect_parts(rt, slips.as_slice(), &SLIP_PARTS);
-    Ok(())
-}
-
 /// The session that stands is gone on with, and its results and its plan have the names of the list.
-fn expect_gone_on_with(rt: &HostRuntime) -> Result<(), Fail> {
-    expect_run(rt, rt.alloc(), &EVENING_WORDS, "", (3, "", UNHEARD));
-    let page = written_by(rt, rt.alloc(), &RESULTS_WORDS)?;
+fn expect_gone_on_with<
+    T: Abort
+        + Files<File = File>
+        + Net<Listener = TcpListener, Stream = TcpStream>
+        + Clock
+        + RandomSource
+        + Alarm,
+>(rt: &T, alloc: Global) -> Result<(), Fail> {
+    expect_run(rt, alloc, &EVENING_WORDS, "", (3, "", UNHEARD));
+    let page = written_by(rt, alloc, &RESULTS_WORDS)?;
     expect_parts(rt, page.as_slice(), &RESULT_PARTS);
-    let plan = written_by(rt, rt.alloc(), &PLAN_WORDS)?;
+    let plan = written_by(rt, alloc, &PLAN_WORDS)?;
     let has_names = holds(plan.as_slice(), "\nPair 2: Άννα and Zoë\n");
     expect_eq(rt, has_names, true, "plan");
     Ok(())
 }
 
 /// It is gone on with where the list has other pairs too, and nothing is made; others refuse that list.
-fn expect_other_pairs(rt: &HostRuntime) -> Result<(), Fail> {
-    let names = format!(in rt.alloc(); "{NAMES}A & B\n")?;
+fn expect_other_pairs<
+    T: Abort
+        + Files<File = File>
+        + Net<Listener = TcpListener, Stream = TcpStream>
+        + Clock
+        + RandomSource
+        + Alarm,
+>(rt: &T, alloc: Global) -> Result<(), Fail> {
+    let names = format!(in alloc; "{NAMES}A & B\n")?;
     fs::write(rt, LIST, names)?;
-    expect_run(rt, rt.alloc(), &RESULTS_WORDS, "", OTHER_PAIRS);
-    expect_run(rt, rt.alloc(), &PLAN_WORDS, "", OTHER_PAIRS);
-    expect_run(rt, rt.alloc(), &WEB_WORDS, "", OTHER_PAIRS);
-    expect_run(rt, rt.alloc(), &EVENING_WORDS, "", (3, "", UNHEARD));
+    expect_run(rt, alloc, &RESULTS_WORDS, "", OTHER_PAIRS);
+    expect_run(rt, alloc, &PLAN_WORDS, "", OTHER_PAIRS);
+    expect_run(rt, alloc, &WEB_WORDS, "", OTHER_PAIRS);
+    expect_run(rt, alloc, &EVENING_WORDS, "", (3, "", UNHEARD));
     Ok(())
 }
 
 #[test]
 fn an_evening_is_made_and_gone_on_with(rt: HostRuntime) -> Result<(), Fail> {
     fs::write(&rt, LIST, NAMES)?;
-    expect_made(&rt)?;
-    expect_gone_on_with(&rt)?;
-    expect_other_pairs(&rt)?;
+    let due = (3, "formatted\n", UNHEARD);
+    expect_run(&rt, rt.alloc(), &EVENING_WORDS, "", due);
+    let config = fs::read(&rt, CONFIG)?;
+    expect_eq(&rt, config.as_slice(), EVENING.as_bytes(), CONFIG);
+    let slips = fs::read(&rt, SLIPS)?;
+    expect_parts(&rt, slips.as_slice(), &SLIP_PARTS);
+    expect_gone_on_with(&rt, rt.alloc())?;
+    expect_other_pairs(&rt, rt.alloc())?;
     for file in [LIST, DISK, CONFIG, SLIPS] {
         fs::remove_file(&rt, file)?;
     }

@@ -110,11 +110,13 @@ fn change(rt: &HostRuntime, file: &str, from: usize, count: usize, value: u8) ->
     Ok(())
 }
 
-// Part 3 of the session, in sector 4, is gone; and then the epoch of the header, in sector 0, is the last one.
+// A file that is no disk is formatted. Part 3 of the session, in sector 4, is gone; and then the epoch of the header, in sector 0,
+// is the last one.
 #[test]
 fn a_disk_with_a_damaged_session_is_refused(rt: HostRuntime) -> Result<(), Fail> {
     let (disk, config) = ("bridge_club_damaged.disk", "bridge_club_damaged.txt");
     let alloc = rt.alloc();
+    fs::write(&rt, disk, vec![in alloc; b'A'; 1_048_576]?)?;
     expect_formatted(&rt, alloc, disk, config)?;
     change(&rt, disk, 4 * 512, 512, 0)?;
     expect_refused(&rt, alloc, disk, 4, "damaged sector 4\n");
