@@ -75,6 +75,7 @@ body {
 }
 p { margin: .35rem 0; }
 h1 { font-size: 1.125rem; margin: 0; line-height: 1.2; overflow: hidden; text-overflow: ellipsis; white-space: nowrap; }
+.login h1 { overflow: visible; white-space: normal; }
 h2 { font-size: 1.0625rem; margin: .8rem 0 .3rem; }
 .suit { font-family: "Segoe UI Symbol", "Apple Symbols", "Noto Sans Symbols2", "DejaVu Sans", sans-serif; font-variant-emoji: text; }
 .red { color: var(--text-red); }
@@ -230,7 +231,7 @@ details { margin: .6rem 0; border-top: 1px solid var(--edge); padding-top: .4rem
 .ways { display: grid; grid-template-columns: repeat(3, 1fr); gap: .6rem; }
 .banner p { margin: 0; font-size: .875rem; }
 .banner p:nth-child(even) { text-align: right; }
-.sheet fieldset { padding: 0 .5rem; margin: .4rem 0; border: 1px solid var(--line); border-radius: .5rem; }
+.sheet fieldset { padding: 0 .5rem .4rem; margin: .4rem 0; border: 1px solid var(--line); border-radius: .5rem; }
 .sheet fieldset label { display: flex; }
 #options { display: flex; flex-wrap: wrap; justify-content: space-between; align-items: center; }
 #options > h2 { margin: 0; }
@@ -328,7 +329,7 @@ body.director main { max-width: 84rem; }
 .marks .half { background: linear-gradient(90deg, var(--good) 50%, transparent 50%); }
 .director #tables .done { border-left-color: var(--good); }
 .director #tables .done td:nth-child(7) { color: #fff; background: var(--not-vul); }
-.director #tables .waits { border-left-color: var(--blue); }
+.director #tables .waits { border-left-color: var(--edge); }
 .director #tables .slow { border-color: var(--wait); }
 .director #tables .slow td:nth-child(7) { color: var(--gold-ink); background: var(--gold); }
 .director #tables .slow td:nth-child(6) { color: var(--ink); font-weight: bold; }
@@ -365,7 +366,7 @@ body.director main { max-width: 84rem; }
   #on-evening { display: grid; grid-template: "k p" auto "s p" 1fr "l l" auto / 1fr 1fr; gap: 0 .75rem; align-items: start; }
   #keeping { grid-area: k; }
   #seeing { grid-area: s; }
-  #publishing { grid-area: p; align-self: stretch; }
+  #publishing { grid-area: p; }
   #on-evening:has(#results:not(:empty)) { grid-template: "k s" auto "p p" auto "l l" auto / 1fr 1fr; }
   #lines { grid-area: l; }
   #on-rulings { grid-template: "c c" auto "h r" auto "p r" auto "s r" 1fr / minmax(0, 1fr) 26rem; }
@@ -465,8 +466,8 @@ summary { cursor: pointer; min-height: 2.2rem; font-weight: bold; }
 :is(.at-left, .at-right) > .plate span { display: -webkit-box; -webkit-box-orient: vertical; -webkit-line-clamp: 3; max-width: 100%; overflow: hidden; }
 .at-right > .plate { margin-left: auto; }
 .trick {
-  grid-area: mid; justify-self: center; display: grid; grid-template: repeat(4, calc((var(--th) - .15rem) / 2)) / repeat(3, var(--tw));
-  grid-template-areas: ". t ." "l t r" "l b r" ". b ."; place-items: center; gap: .15rem;
+  --gap: .15rem; grid-area: mid; justify-self: center; display: grid; grid-template: repeat(4, calc((var(--th) - var(--gap)) / 2)) / repeat(3, var(--tw));
+  grid-template-areas: ". t ." "l t r" "l b r" ". b ."; place-items: center; gap: var(--gap);
 }
 .trick .top { grid-area: t; }
 .trick .left { grid-area: l; }
@@ -578,7 +579,7 @@ td.marked { outline: 2px dashed var(--blue); outline-offset: -2px; }
 @keyframes wheel { to { transform: rotate(1turn); } }
 #dock.play { grid-template-columns: 4fr 3fr 3.7fr; gap: .4rem; }
 #dock.play:has([hidden]) { grid-template-columns: 1fr 1fr; }
-#dock.claimed { grid-template-columns: 1fr 1fr; color: var(--gold-ink); background: var(--gold); }
+#dock.claimed { grid-template-columns: 1fr 1fr; column-gap: .6rem; color: var(--gold-ink); background: var(--gold); }
 #dock.claimed p { grid-column: 1 / -1; margin: 0; line-height: 1.25; }
 #dock.claimed button { min-height: 3.25rem; font-size: 1.0625rem; }
 #refuse { color: #a8001c; background: #fff; border-color: #a8001c; }
@@ -765,6 +766,7 @@ td.marked { outline: 2px dashed var(--blue); outline-offset: -2px; }
   .box-call, .box #confirm { min-height: 3.25rem; }
 }
 @media (min-width: 56em) and (orientation: landscape) and (min-height: 30.01em) {
+  #stage .trick { --gap: .5rem; }
   .at-table {
     --cw: 3.2rem; --fw: 4.375rem; --ch: 6.25rem; --tw: 4.5rem; --th: 6.25rem;
     grid-template: "bar bar" auto "stage side" 1fr "note side" auto "say side" auto "hand side" auto "dock side" auto / minmax(0, 1fr) 18rem;
@@ -872,6 +874,8 @@ td.marked { outline: 2px dashed var(--blue); outline-offset: -2px; }
 .of-bottom { grid-area: bottom; }
 .of-middle { grid-area: middle; display: grid; place-items: center; min-width: 8rem; min-height: 8rem; }
 .of-top, .of-bottom { max-width: 11rem; }
+#opened .diagram { grid-template-columns: minmax(0, auto) auto minmax(0, auto); justify-content: center; }
+#opened :is(.of-top, .of-bottom) { max-width: none; }
 .diagram p { display: flex; gap: .35rem; align-items: center; margin: 0; font-size: .875rem; overflow-wrap: anywhere; line-height: 1.15; }
 .mark.vul { color: #fff; background: var(--vul); }
 .mark.safe { color: #fff; background: var(--not-vul); }
