@@ -364,7 +364,7 @@ function auctionTable(place, view) {
   const head = make("tr", null, ...columns.map((seat) => make("th", { scope: "col", className: seat === due ? "turn" : "" },
     make("span",
       { className: "seat" + (isVulnerable(view, seat) ? " vul" : ""), aria_hidden: "true" }, seat), seat === view.dealer ? " " + TEXTS.deals : "", make("br"),
-    make("span", { aria_label: SEAT_NAMES[seat] }, seat === view.seat && view.isOwn !== false ? TEXTS.you : place.names ? place.names[seat] : ""))));
+    make("span", { aria_label: SEAT_NAMES[seat] }, ...(seat === view.seat && view.isOwn !== false ? [TEXTS.you] : nameNodes(place.names ? place.names[seat] : ""))))));
   const cells = Array(columns.indexOf(view.dealer)).fill("").concat(view.calls);
   const rows = [];
   // An auction at play has room for twelve calls, so that it stays where it is.

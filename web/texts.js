@@ -321,8 +321,8 @@ const TEXTS = {
   diskInOrder: "In order",
   diskIsLevel: "Level",
   diskIsLost: "Lost",
-  keptOn: (epoch, records, isLost) => "Epoch " + epoch + ", " + (isLost ? "lost at action " + records
-    : records === "0" ? "no action yet" : "last written: action " + records + " of 1024"),
+  keptOn: (epoch, records, isLost) => (isLost ? "Lost at snapshot " : "Snapshot ") + epoch
+    + (records === "0" ? "" : " and " + records + (records === "1" ? " action" : " actions")),
   writtenFirst: "Each action is on it before it is answered.",
   writtenNoMore: "Nothing more is written to it.",
   ifDiskFails: "If a disk fails",

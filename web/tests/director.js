@@ -541,7 +541,7 @@ run({
   "the disk is named, and is nothing that is waited with": async () => {
     const page = await opened(tables(AT_PLAY), "OK\n", played(), "OK\nNOW 0 14400\nDISK tonight.disk\nKEPT 2 17\nNOTICE Tea\n.\n");
     assert.match(page.text("serving"), /^The pages close at /);
-    assert.match(page.text("disks"), /^Disktonight\.diskIn orderEpoch 2, last written: action 17 of 1024Each action is on it before it is answered\./);
+    assert.match(page.text("disks"), /^Disktonight\.diskIn orderSnapshot 2 and 17 actionsEach action is on it before it is answered\./);
     assert.deepStrictEqual(page.waits.map((wait) => wait.body), [`${KEY}\n${tables(AT_PLAY)}NOTICE Tea\n`]);
   },
 
@@ -550,8 +550,8 @@ run({
     assert.strictEqual((await named("a.disk and b.disk")).at("lost-disk"), null);
     assert.strictEqual((await named("b.disk alone, a.disk is lost")).text("lost-disk"), "A disk has failed: b.disk alone, a.disk is lost. The evening goes on.");
     const tiles = async (name) => (await named(name)).at("disks").nodes[0].nodes.map((tile) => tile.nodes.slice(0, 4).map((node) => node.textContent).join(" "));
-    assert.deepStrictEqual(await tiles("a.disk and b.disk"), ["First disk a.disk Level Epoch 5, no action yet", "Second disk b.disk Level Epoch 3, last written: action 17 of 1024"]);
-    assert.deepStrictEqual(await tiles("b.disk alone, a.disk is lost"), ["Disk b.disk In order Epoch 5, no action yet", "Disk a.disk Lost Epoch 3, lost at action 17"]);
+    assert.deepStrictEqual(await tiles("a.disk and b.disk"), ["First disk a.disk Level Snapshot 5", "Second disk b.disk Level Snapshot 3 and 17 actions"]);
+    assert.deepStrictEqual(await tiles("b.disk alone, a.disk is lost"), ["Disk b.disk In order Snapshot 5", "Disk a.disk Lost Lost at snapshot 3 and 17 actions"]);
   },
 
   "each field stands under its heading": async () => {

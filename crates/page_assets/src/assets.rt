@@ -769,8 +769,10 @@ td.marked { outline: 2px dashed var(--blue); outline-offset: -2px; }
   #stage .trick { --gap: .5rem; }
   .at-table {
     --cw: 3.2rem; --fw: 4.375rem; --ch: 6.25rem; --tw: 4.5rem; --th: 6.25rem;
-    grid-template: "bar bar" auto "stage side" 1fr "note side" auto "say side" auto "hand side" auto "dock side" auto / minmax(0, 1fr) 18rem;
+    grid-template: "bar bar" auto "note note" auto "stage side" 1fr "say side" auto "hand side" auto "dock side" auto / minmax(0, 1fr) 18rem;
   }
+  .at-table:not(.bidding) #notes > :not(:empty) { margin: 0; border-radius: 0; }
+  .at-table:not(.bidding) #notice { padding: .5rem 1rem; }
   .at-table.bidding { --cw: 2.8rem; grid-template: "bar bar" auto "stage dock" 1fr "note dock" auto "hand dock" auto / minmax(0, 1fr) 23rem; }
   #strip, .bidding #side { display: none; }
   #side { display: flex; flex-direction: column; gap: .9rem; padding: .75rem 1rem; overflow-y: auto; }
@@ -780,10 +782,13 @@ td.marked { outline: 2px dashed var(--blue); outline-offset: -2px; }
   .side-tricks .tally i { background: var(--second); }
   .side-tricks .tally .ours { background: var(--good); }
   .side-tricks .tally .theirs { background: var(--bad); }
-  .side-auction > table { border: 1px solid var(--line); border-radius: .5rem; }
+  .side-auction > table { border: 1px solid var(--line); border-radius: .5rem; border-collapse: separate; border-spacing: 0; overflow: hidden; }
   .side-round { margin-top: auto; }
   .bidding #status { grid-area: dock; justify-self: stretch; align-self: start; z-index: 1; max-width: none; margin: .75rem 1rem; padding: .4rem; border-radius: .5rem; font-size: 1.125rem; }
   .bidding #status:not(.turn) { color: var(--ink); background: var(--soft); }
+  .auction { --row: 2.75rem; }
+  .auction td .bid { font-size: 1.75rem; }
+  .auction td .pass { font-size: 1.25rem; }
   .bidding .board-picture { display: grid; grid-area: chip; place-self: center; width: 9rem; height: 9rem; }
   .bidding .board-picture b { font-size: 2.25rem; }
   .bidding #stage:has(.board-picture) {
@@ -803,6 +808,7 @@ td.marked { outline: 2px dashed var(--blue); outline-offset: -2px; }
   .bidding .board-picture { width: 11rem; height: 11rem; }
   .auction { --row: 3.25rem; }
   .auction td { font-size: 1.625rem; }
+  .auction td .bid { font-size: 2rem; }
   #dock.box .bid { font-size: 1.75rem; }
   .played, :is(#hand, .at-top) .card { font-size: 2.5rem; }
   .played .suit, :is(#hand, .at-top) .card .suit { font-size: 2.5rem; }
@@ -1047,7 +1053,7 @@ td.marked { outline: 2px dashed var(--blue); outline-offset: -2px; }
   .between .large { font-size: 1.625rem; }
 }
 @media (min-width: 40em) {
-  .login::before { content: "\2660\fe0e \2665\fe0e \2666\fe0e \2663\fe0e"; padding: 0 4rem; place-content: center stretch; white-space: normal; text-align-last: justify; font-size: 9rem; }
+  .login::before { content: "\2660\fe0e \2663\fe0e"; padding: 0 3.5rem; place-content: center stretch; white-space: normal; text-align-last: justify; font-size: 12.5rem; }
 }
 @media print {
   #bar button, button, summary, label, input, select, textarea, #status, #told, #tabs, #dock, #serving, #others, #on-tables, #lines, .director .panel:not(#publishing):not(#ranking) { display: none !important; }
@@ -1382,8 +1388,8 @@ const TEXTS = {
   diskInOrder: "In order",
   diskIsLevel: "Level",
   diskIsLost: "Lost",
-  keptOn: (epoch, records, isLost) => "Epoch " + epoch + ", " + (isLost ? "lost at action " + records
-    : records === "0" ? "no action yet" : "last written: action " + records + " of 1024"),
+  keptOn: (epoch, records, isLost) => (isLost ? "Lost at snapshot " : "Snapshot ") + epoch
+    + (records === "0" ? "" : " and " + records + (records === "1" ? " action" : " actions")),
   writtenFirst: "Each action is on it before it is answered.",
   writtenNoMore: "Nothing more is written to it.",
   ifDiskFails: "If a disk fails",
@@ -2368,7 +2374,7 @@ function auctionTable(place, view) {
   const head = make("tr", null, ...columns.map((seat) => make("th", { scope: "col", className: seat === due ? "turn" : "" },
     make("span",
       { className: "seat" + (isVulnerable(view, seat) ? " vul" : ""), aria_hidden: "true" }, seat), seat === view.dealer ? " " + TEXTS.deals : "", make("br"),
-    make("span", { aria_label: SEAT_NAMES[seat] }, seat === view.seat && view.isOwn !== false ? TEXTS.you : place.names ? place.names[seat] : ""))));
+    make("span", { aria_label: SEAT_NAMES[seat] }, ...(seat === view.seat && view.isOwn !== false ? [TEXTS.you] : nameNodes(place.names ? place.names[seat] : ""))))));
   const cells = Array(columns.indexOf(view.dealer)).fill("").concat(view.calls);
   const rows = [];
   // An auction at play has room for twelve calls, so that it stays where it is.
