@@ -7,7 +7,7 @@ use Rattle.session_store.specs.Value.{StoreValue}
 use Rattle.session_rules.specs.declared.action.Action.{Action}
 use Rattle.session_rules.specs.State.{SessionValue}
 use Rattle.bridge_session.specs.SessionKeeping.{session_keeping}
-use Rattle.session_pair.specs.Telling.{of_side, shown_of}
+use Rattle.session_pair.specs.Telling.{of_side, shown_of, CannotTell}
 use Rattle.session_store.specs.Pair.{standing_of}
 use Rattle.session_store.specs.declared.standing.PairStanding.{PairStanding}
 use Rattle.session_store.specs.declared.standing.PairStanding.TheVariants.{FirstLost, SecondLost}
@@ -88,7 +88,7 @@ CountsInPair set pair body count = CountsKeys set pair.first body count ⊎ Coun
 module _ {D E : Type 0} (first : Disk D) (second : Disk E) where
   -- Both stores were served a body of lines, of a set, and then settled. What one side answered may be told: one works, and where
   -- some state might be told of the pair before, the state that is shown may be told of it now. The text is that of a side that
-  -- works.
+  -- works. Nothing more may be told only where the stores differ then or cannot be settled.
   pub record IsServedTwice (set : LineSet) (old : PairValue D E) (body : List ℕ) (text : Option (List ℕ)) (new : PairValue D E) : Type 0 where
     pub first_text : Option (List ℕ)
     pub first_served : StoreValue D SessionValue Action
@@ -103,6 +103,7 @@ module _ {D E : Type 0} (first : Disk D) (second : Disk E) where
         → IsToldPair session_keeping first second new.first new.second (session_of new)
     pub text_is : new.stopped ≡ false → text ≡ of_side new.first.failed first_text second_text
     pub untold : new.stopped ≡ true → text ≡ None
+    pub stops : new.stopped ≡ true → CannotTell first second first_served second_served new.first new.second
 
   -- a body was answered so; or, once nothing more may be told, nothing was
   abbrev pub AnswersBy : Bool → LineSet → PairValue D E → List ℕ → Option (List ℕ) → PairValue D E → Type 0

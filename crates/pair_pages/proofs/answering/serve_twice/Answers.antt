@@ -25,6 +25,7 @@ returns-then-has_failed-clause-served g c = record {
       c.answer_lines-ours.ensures.settled c.answer_lines-theirs.ensures.settled) c.if-settle_served.true;
   text_is = λ works. text_second _ _ _ (sym c.has_failed.ensures ∙ c.if-has_failed.true);
   untold = λ stopped. cc;
+  stops = λ stopped. cc;
 }
 
 pub returns-then-has_failed-clause-counted : goal.returns-then-has_failed-clause-counted
@@ -59,6 +60,7 @@ returns-then-settle_served-clause-served g c = record {
       c.answer_lines-ours.ensures.settled c.answer_lines-theirs.ensures.settled) c.if-settle_served.true;
   text_is = λ works. text_first _ _ _ (sym c.has_failed.ensures ∙ c.if-has_failed.false);
   untold = λ stopped. cc;
+  stops = λ stopped. cc;
 }
 
 pub returns-then-settle_served-clause-counted : goal.returns-then-settle_served-clause-counted
@@ -87,6 +89,7 @@ returns-clause-served g c = record {
   told = λ works. cc;
   text_is = λ works. cc;
   untold = λ stopped. refl;
+  stops = λ stopped. c.settle_served.ensures.untold c.if-settle_served.false;
 }
 
 pub returns-clause-confirmed : goal.returns-clause-confirmed
