@@ -3,6 +3,7 @@ use Rattle.std.specs.Prelude.{◌≡◌, ◌⊎◌, ◌++◌, ℕ, Bool, true, f
 use Rattle.club_commands.specs.Basis.{Bor, Stream, IsUntouched, Disk, ClubDisk, file_disk, header_in, StoreFault, DiskFault, NoMemory, RefusesReading, RunFault, Store}
 use Rattle.club_commands.specs.declared.fault.RunFault.TheVariants.{Joining}
 use Rattle.club_commands.specs.declared.work.Work.TheVariants as work
+use Rattle.sector_disk.specs.declared.disk.DiskFault.{DiskFault as Unfound}
 use Rattle.session_pair.specs.Joining.{IsJudged, IsUnjudged}
 use Rattle.session_pair.specs.Unjoined.{Held, IsHeld}
 use Rattle.session_pair.specs.declared.joining.Judged.{Judged}
@@ -70,14 +71,19 @@ module _ {D : Type 0} (disk : Disk D) where
       × StopsAlone ours cause output ended)
       ⊎ ((ours : Held) × (theirs : Held) × IsHeld disk d left ours × IsHeld disk e other theirs × TellsTwo ours theirs output ended))
 
--- the disk was not found, or the copy was not
-abbrev pub IsNotFound : RunFault → Type 0
-IsNotFound fault = (fault ≡ Store DiskFault) ⊎ (fault ≡ Joining (NoCopy DiskFault))
+-- a disk was not found, which is the fault, and nothing is written
+abbrev pub StopsUnfound : RunFault → Stream → Ended → Type 0
+StopsUnfound fault output ended = (ended ≡ Err fault) × IsUntouched output
 
--- it was said what the disks in two files hold; or one was not found, and nothing is written
+-- it was said what two disks hold that were found; or the first was not, or the second
+abbrev pub ChecksFound : {E F : Type 0} → Result ClubDisk E → Result ClubDisk F → Stream → Ended → Type 0
+ChecksFound (Err none) copy output ended = StopsUnfound (Store DiskFault) output ended
+ChecksFound (Ok d) (Err none) output ended = StopsUnfound (Joining (NoCopy DiskFault)) output ended
+ChecksFound (Ok d) (Ok e) output ended = (left : ClubDisk) × (other : ClubDisk) × ChecksTwo file_disk d e left other output ended
+
+-- it was said of whatever disks were found in two files, of which no contract can say more
 abbrev pub HasCheckedTwo : Stream → Ended → Type 0
-HasCheckedTwo output ended = ((fault : RunFault) × IsNotFound fault × (ended ≡ Err fault) × IsUntouched output)
-    ⊎ ((d : ClubDisk) × (e : ClubDisk) × (left : ClubDisk) × (other : ClubDisk) × ChecksTwo file_disk d e left other output ended)
+HasCheckedTwo output ended = (disk : Result ClubDisk Unfound) × (copy : Result ClubDisk Unfound) × ChecksFound disk copy output ended
 
 -- what the disk in a file holds, or what the disks in two hold where another is named
 abbrev pub RunsCheck : Option (Bor (List ℕ)) → Stream → Stream → Ended → Type 0

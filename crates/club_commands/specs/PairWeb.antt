@@ -4,6 +4,7 @@ use Rattle.club_commands.specs.Basis.{Bor, Stream, Takes, TakesPrefix, IsUntouch
 use Rattle.club_commands.specs.declared.fault.RunFault.TheVariants.{Joining, Lost}
 use Rattle.club_commands.specs.declared.copied.TwoDisks.{TwoDisks}
 use Rattle.club_commands.specs.declared.fault.LostDisk.{LostDisk}
+use Rattle.club_commands.specs.declared.pair_texts.PairTexts.{PairTexts}
 use Rattle.club_commands.specs.declared.fault.LostDisk.TheVariants as lost
 use Rattle.club_commands.specs.declared.fault.SystemFault.TheVariants.{Clock}
 use Rattle.bridge_results.specs.ShownPairs.{Names}
@@ -24,9 +25,11 @@ use Rattle.page_replies.specs.Tables.{tables_text}
 use Rattle.page_replies.specs.ToldResults.{ResultsTo}
 use Rattle.session_rules.specs.declared.action.Action.{Action}
 use Rattle.session_rules.specs.State.{SessionValue}
+use Rattle.sector_disk.specs.declared.disk.DiskFault.{DiskFault as Unfound}
 use Rattle.session_pair.specs.Joining.{HasJoined}
 use Rattle.session_pair.specs.Unjoined.{IsNotJoined}
 use Rattle.session_pair.specs.declared.joining.JoinFault.{JoinFault}
+use Rattle.session_pair.specs.declared.joining.JoinFault.TheVariants.{Copy as NoCopy}
 use Rattle.session_pair.specs.declared.joining.Judged.{Judged}
 use Rattle.pair_pages.specs.Pair.{PairValue, pair_of, session_of, desk_of, AnswersPair}
 use Rattle.pair_pages.specs.declared.disk_names.DiskNames.{DiskNames}
@@ -41,10 +44,10 @@ use Rattle.table_pages.specs.Waits.{wait_reply}
 use Rattle.table_pages.specs.declared.page_texts.PageTexts.{PageTexts}
 use Rattle.table_server.specs.declared.line_set.LineSet.{LineSet}
 use Rattle.web_loop.specs.Turns.{LeadsTo}
-use Rattle.club_commands.specs.CheckedTwo.{IsNotFound}
+use Rattle.club_commands.specs.CheckedTwo.{StopsUnfound}
 use Rattle.club_commands.specs.Ended.{Ended}
 use Rattle.club_commands.specs.Listed.{RefusesList}
-use Rattle.club_commands.specs.Web.{listening_line, site_at, IsUnshown}
+use Rattle.club_commands.specs.Web.{listening_line, host_at, alias_at, site_at, IsUnshown}
 
 -- a server of pages over the stores of two disks
 abbrev pub ServerOver : Type 0 → Type 0 → Type 0
@@ -114,10 +117,15 @@ module _ {D E : Type 0} (first : Disk D) (second : Disk E) where
     pub has_clock : Bool
     pub ends : ended ≡ pair_ended_by last.stopped (standing_of last.first.failed last.second.failed) disk_first has_clock
 
--- how the disks stood to each other
-abbrev pub level_line : Bool → List ℕ
-level_line true = codes "copy is level\n"
-level_line false = codes "copy brought up to date\n"
+-- by whether both held the same, and whether the disk was taken first, how the disks stood to each other
+abbrev pub level_line : Bool → Bool → List ℕ
+level_line true disk_first = codes "copy is level\n"
+level_line false true = codes "copy brought up to date\n"
+level_line false false = codes "disk brought up to date\n"
+
+-- that, and where the pages are
+abbrev pub begun_line : Judged → List ℕ → List ℕ
+begun_line judged host = level_line judged.was_level judged.disk_first ++ listening_line host
 
 -- nothing was done for such a fault, and nothing is written
 abbrev pub IsNothingShown : (RunFault → Type 0) → Stream → Ended → Type 0
@@ -127,20 +135,21 @@ IsNothingShown Why output ended = (fault : RunFault) × Why fault × (ended ≡ 
 abbrev pub HasNoMemory : RunFault → Type 0
 HasNoMemory fault = fault ≡ Store NoMemory
 
--- the files of two disks were had, and no session was opened on both
-abbrev pub IsNotOpened : RunFault → Type 0
-IsNotOpened fault = (d : ClubDisk) × (e : ClubDisk) × (cause : JoinFault) × IsNotJoined file_disk d e cause × (fault ≡ Joining cause)
-
--- why no pages are shown over two disks: one was not found; or memory was refused; or no session was opened on both
-abbrev pub IsUnopened : RunFault → Type 0
-IsUnopened fault = IsNotFound fault ⊎ (HasNoMemory fault ⊎ IsNotOpened fault)
+-- no session was opened on two disks, which is the fault
+abbrev pub IsNotOpened : ClubDisk → ClubDisk → RunFault → Type 0
+IsNotOpened d e fault = (cause : JoinFault) × IsNotJoined file_disk d e cause × (fault ≡ Joining cause)
 
 -- It is said how the disks stood to each other and where the pages are, and they were shown; or a write of that failed.
 abbrev pub ShowsPairAt : Judged → Site → PairServer ClubStore ClubStore → PairServer ClubStore ClubStore → Stream → Ended → Type 0
 ShowsPairAt judged site start last output ended =
-    (Takes output (level_line judged.was_level ++ listening_line site.host)
+    (Takes output (begun_line judged site.host)
     × ShowsPair file_disk file_disk site judged.disk_first start last ended)
-    ⊎ (TakesPrefix output (level_line judged.was_level ++ listening_line site.host) × (ended ≡ Err (StreamFault Write)))
+    ⊎ (TakesPrefix output (begun_line judged site.host) × (ended ≡ Err (StreamFault Write)))
+
+-- so it was; or none are shown, for such a cause
+abbrev pub ShowsPairOr : (RunFault → Type 0) → Judged → Site → PairServer ClubStore ClubStore → PairServer ClubStore ClubStore → Stream → Ended → Type 0
+ShowsPairOr Why judged site start last output ended =
+    IsNothingShown Why output ended ⊎ ShowsPairAt judged site start last output ended
 
 -- what the director is told where one of two files is lost
 abbrev pub alone_text : List ℕ → List ℕ → List ℕ
@@ -165,6 +174,14 @@ pub record IsBegun (names : DiskNames) (v w : ClubStore) (start : PairServer Clu
   pub names_are : start.names ≡ names
   pub stopped : start.stopped ≡ false
 
+-- these are what pages begin with over two disks that were judged so and hold that session: their names, what is said first, and the
+-- players' names
+pub record BeginsWith (web : WebHost) (names : Names) (judged : Judged) (s : SessionValue) (texts : PairTexts) : Type 0 where
+  pub host : string_bytes texts.names.host ≡ host_at web
+  pub alias : string_bytes texts.names.alias ≡ alias_at web
+  pub line : string_bytes texts.line ≡ begun_line judged (string_bytes texts.names.host)
+  pub people : texts.people.items ≡ people_text names s.configuration.pairs
+
 -- over what pages are shown and where, and over what was written and how it ended
 module _ (texts : PageTexts) (web : WebHost) (output : Stream) (ended : Ended) where
   -- pages were shown over these stores where the words say, with the names of a list or none
@@ -186,11 +203,20 @@ module _ (texts : PageTexts) (web : WebHost) (output : Stream) (ended : Ended) w
     ShowsOpened names judged v w = IsNothingShown HasNoMemory output ended
         ⊎ ((named : DiskNames) × IsNamed disks.disk.now disks.copy.now judged.disk_first named × ShowsJoined names named judged v w)
 
-    -- a session was opened on two disks, and pages were shown over it; or nothing was done
+    -- a session was opened on these disks, and pages were shown over it; or none was, which is the fault, and nothing is written
+    abbrev pub ShowsOver : Names → ClubDisk → ClubDisk → Type 0
+    ShowsOver names d e = IsNothingShown (IsNotOpened d e) output ended
+        ⊎ ((judged : Judged) × (v : ClubStore) × (w : ClubStore) × HasJoined file_disk d e judged v w × ShowsOpened names judged v w)
+
+    -- the same over two disks that were found; or the first was not, or the second, which is the fault
+    abbrev pub ShowsFound : {E F : Type 0} → Names → Result ClubDisk E → Result ClubDisk F → Type 0
+    ShowsFound names (Err none) copy = StopsUnfound (Store DiskFault) output ended
+    ShowsFound names (Ok d) (Err none) = StopsUnfound (Joining (NoCopy DiskFault)) output ended
+    ShowsFound names (Ok d) (Ok e) = ShowsOver names d e
+
+    -- the same over whatever disks were found, of which no contract can say more
     abbrev pub ShowsTwo : Names → Type 0
-    ShowsTwo names = IsNothingShown IsUnopened output ended
-        ⊎ ((d : ClubDisk) × (e : ClubDisk) × (judged : Judged) × (v : ClubStore) × (w : ClubStore)
-        × HasJoined file_disk d e judged v w × ShowsOpened names judged v w)
+    ShowsTwo names = (disk : Result ClubDisk Unfound) × (copy : Result ClubDisk Unfound) × ShowsFound names disk copy
 
     -- it was done with the names of a list, or what is wrong with the list is the fault
     abbrev pub ShowsTwoFound : Result (List PairNames) EveningFault → Type 0

@@ -2,7 +2,7 @@
 //! ended, which no clause can say and tests show.
 ghost use Rattle.std.specs.Prelude.{◌≡◌, string_bytes, IfOk};
 ghost use Rattle.line_text.specs.Streams.{stream};
-ghost use Rattle.club_commands.specs.CheckedTwo.{both_text, judged_line, newer_line, ChecksTwo, EndsJudged, HasCheckedTwo, RunsCheck, StopsAlone, TellsJudged, TellsTwo};
+ghost use Rattle.club_commands.specs.CheckedTwo.{both_text, judged_line, newer_line, ChecksFound, ChecksTwo, EndsJudged, HasCheckedTwo, RunsCheck, StopsAlone, TellsJudged, TellsTwo};
 ghost use Rattle.club_commands.specs.Ended.{WritesAndStops};
 
 use crate::check::{check_refused, seen_text};
@@ -151,7 +151,7 @@ fn check_found<W: Write>(
     copy: Result<ClubDisk, DiskFault>,
     output: &mut W,
 ) -> Result<(), RunFault>
-    ensures { HasCheckedTwo (stream W.contents output.old output.new) result }
+    ensures { ChecksFound disk copy (stream W.contents output.old output.new) result }
 {
     let Ok(mut disk) = disk else {
         return Err(RunFault::Store(StoreFault::Disk));

@@ -4,7 +4,7 @@ ghost use Rattle.std.specs.Prelude.{◌≡◌, ◌++◌, None, IfOk, string_byte
 ghost use Rattle.line_text.specs.Streams.{stream};
 ghost use Rattle.evening_commands.specs.NamesView.{list_seen};
 ghost use Rattle.session_pair.specs.Joining.{IsOne};
-ghost use Rattle.club_commands.specs.PairWeb.{alone_text, IsNamed, ShowsOpened, ShowsTwo, ShowsTwoFound, ShowsTwoListed};
+ghost use Rattle.club_commands.specs.PairWeb.{alone_text, IsNamed, ShowsFound, ShowsOpened, ShowsOver, ShowsTwo, ShowsTwoFound, ShowsTwoListed};
 
 use crate::fault::RunFault;
 use crate::listed::refuse_list;
@@ -104,7 +104,8 @@ fn show_on<N: Host, W: Write>(
     copy: ClubDisk,
     output: &mut W,
 ) -> Result<(), RunFault>
-    ensures { ShowsTwo shown.now.texts shown.now.host (stream W.contents output.old output.new) result disks.entry shown.now.names }
+    ensures { ShowsOver shown.now.texts shown.now.host (stream W.contents output.old output.new) result disks.entry shown.now.names
+        disk copy }
 {
     match join_disks(alloc, disk, copy) {
         Err(fault) => Err(RunFault::Joining(fault)),
@@ -122,7 +123,8 @@ fn show_found<N: Host, W: Write>(
     copy: Result<ClubDisk, DiskFault>,
     output: &mut W,
 ) -> Result<(), RunFault>
-    ensures { ShowsTwo shown.now.texts shown.now.host (stream W.contents output.old output.new) result disks.entry shown.now.names }
+    ensures { ShowsFound shown.now.texts shown.now.host (stream W.contents output.old output.new) result disks.entry shown.now.names
+        disk copy }
 {
     let Ok(disk) = disk else {
         return Err(RunFault::Store(StoreFault::Disk));

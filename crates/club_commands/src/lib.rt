@@ -27,6 +27,7 @@ mod makeable;
 mod on_disk;
 mod output;
 mod over_disk;
+mod pair_texts;
 mod pair_web;
 mod planning;
 mod printable;

@@ -1,18 +1,19 @@
 //! Pages over a session that two disks keep, as the command `web` shows them with `--copy`.
-ghost use Rattle.std.specs.Prelude.{◌≡◌, ◌⊎◌, ◌≤◌, ◌++◌, true, length, string_bytes, IfOk, IfSome};
+ghost use Rattle.std.specs.Prelude.{◌≡◌, ◌≤◌, true, length, string_bytes, IfErr, IfSome, OnOk};
 ghost use Rattle.line_text.specs.Streams.{stream};
 ghost use Rattle.session_pair.specs.Joining.{IsOne};
 ghost use Rattle.pair_pages.specs.Pair.{are_settled};
 ghost use Rattle.table_pages.specs.Site.{site_of};
-ghost use Rattle.club_commands.specs.Web.{listening_line, IsUnshown};
-ghost use Rattle.club_commands.specs.PairWeb.{lost_disk, ended_standing, pair_ended_by, level_line, value_of, IsNothingShown, ShowsPair, ShowsPairAt, ShowsJoined, ShowsJoinedWith};
+ghost use Rattle.club_commands.specs.Web.{HasNoRandom, IsUnshown};
+ghost use Rattle.club_commands.specs.PairWeb.{lost_disk, ended_standing, pair_ended_by, begun_line, value_of, BeginsWith, IsNothingShown, ShowsPair, ShowsPairAt, ShowsPairOr, ShowsJoined, ShowsJoinedWith};
 
 use crate::fault::{LostDisk, RunFault, SystemFault};
 use crate::listed::refuse_list;
-use crate::listening::{listen_at, listening_line, names_of};
+use crate::listening::listen_at;
 use crate::machine::Host;
 use crate::output::write_output;
-use crate::web::{pages_over, people_of};
+use crate::pair_texts::{PairTexts, texts_of};
+use crate::web::pages_over;
 use crate::work::Shown;
 use bridge_endings::Cache;
 use bridge_session::Session;
@@ -24,7 +25,7 @@ use pair_pages::{DiskNames, PairServer};
 use sector_disk::SectorDisk;
 use session_pair::{Joined, Judged};
 use session_store::{PairStanding, Store, StoreFault};
-use std::alloc::{AllocError, Global};
+use std::alloc::Global;
 use std::hash::RandomState;
 use std::io::Write;
 use std::net::{Net, TcpListener, TcpStream};
@@ -116,7 +117,7 @@ fn show_said<N: Host, W: Write, K: Seconds>(
     pages: &mut TablePages<PairServer<ClubStore, ClubStore>, K>,
     output: &mut W,
 ) -> Result<(), RunFault>
-    requires line { line.now ≡ level_line judged.was_level ++ listening_line (string_bytes pages.old.names.host) }
+    requires line { line.now ≡ begun_line judged (string_bytes pages.old.names.host) }
     ensures { ShowsPairAt judged (site_of pages.old.texts pages.old.names pages.old.people.items)
         pages.old.server pages.new.server (stream W.contents output.old output.new) result }
 {
@@ -126,23 +127,23 @@ fn show_said<N: Host, W: Write, K: Seconds>(
     }
 }
 
-/// The same once there is a listener.
-fn show_pair_at<N: Host, W: Write, K: Seconds>(
+/// The same where there is a listener. What was found is handed in, since only so a clause can say what comes of it.
+fn show_pair_heard<N: Host, W: Write, K: Seconds>(
     rt: &N,
     alloc: Global,
-    host: &WebHost<'_>,
+    found: Result<TcpListener, RunFault>,
     minutes: u16,
     judged: Judged,
     line: &str,
     pages: &mut TablePages<PairServer<ClubStore, ClubStore>, K>,
     output: &mut W,
 ) -> Result<(), RunFault>
-    requires line { line.now ≡ level_line judged.was_level ++ listening_line (string_bytes pages.old.names.host) }
-    ensures { IsNothingShown (IsUnshown host.now) (stream W.contents output.old output.new) result
-        ⊎ ShowsPairAt judged (site_of pages.old.texts pages.old.names pages.old.people.items)
-        pages.old.server pages.new.server (stream W.contents output.old output.new) result }
+    requires line { line.now ≡ begun_line judged (string_bytes pages.old.names.host) }
+    ensures heard { OnOk found (ShowsPairOr HasNoRandom judged (site_of pages.old.texts pages.old.names pages.old.people.items)
+        pages.old.server pages.new.server (stream W.contents output.old output.new) result) }
+    ensures unheard { IfErr found (λ refused. IsNothingShown (λ fault. fault ≡ refused) (stream W.contents output.old output.new) result) }
 {
-    match listen_at(rt, host) {
+    match found {
         Err(fault) => Err(fault),
         Ok(listener) => match RandomState::new(rt) {
             Err(_) => Err(RunFault::System(SystemFault::Random)),
@@ -153,28 +154,63 @@ fn show_pair_at<N: Host, W: Write, K: Seconds>(
     }
 }
 
-/// The lines that say how the disks stood to each other, and where the pages are.
-fn pair_line(alloc: Global, was_level: bool, host: &str) -> Result<String, AllocError>
-    ensures { IfOk result (λ line. string_bytes line ≡ level_line was_level ++ listening_line host.now) }
+/// Listens, and does the same.
+fn show_pair_at<N: Host, W: Write, K: Seconds>(
+    rt: &N,
+    alloc: Global,
+    host: &WebHost<'_>,
+    minutes: u16,
+    judged: Judged,
+    line: &str,
+    pages: &mut TablePages<PairServer<ClubStore, ClubStore>, K>,
+    output: &mut W,
+) -> Result<(), RunFault>
+    requires line { line.now ≡ begun_line judged (string_bytes pages.old.names.host) }
+    ensures { ShowsPairOr (IsUnshown host.now) judged (site_of pages.old.texts pages.old.names pages.old.people.items)
+        pages.old.server pages.new.server (stream W.contents output.old output.new) result }
 {
-    let listening = listening_line(alloc, host)?;
-    let mut line = String::from_str(alloc, level_text(was_level))?;
-    line.push_str(listening.as_str())?;
-    Ok(line)
+    let found = listen_at(rt, host);
+    show_pair_heard(rt, alloc, found, minutes, judged, line, pages, output)
 }
 
-/// The line that says how the disks stood to each other.
-fn level_text(was_level: bool) -> &'static str
-    ensures { result.now ≡ level_line was_level }
+/// Shows pages that begin so over a session that was opened on two disks, with what stands beside it.
+fn show_begun<N: Host, W: Write>(
+    rt: &N,
+    alloc: Global,
+    shown: &Shown<'_>,
+    joined: Joined<ClubStore>,
+    texts: PairTexts,
+    disks: DiskNames,
+    cache: Cache,
+    desk: Desk,
+    output: &mut W,
+) -> Result<(), RunFault>
+    requires works { IsOne joined.first joined.second }
+    requires begins { BeginsWith shown.now.host shown.now.names joined.judged joined.first.state texts }
+    ensures { ShowsJoinedWith shown.now.texts shown.now.host (stream W.contents output.old output.new) result shown.now.names
+        disks joined.judged joined.first joined.second }
 {
-    if was_level {
-        "copy is level\n"
-    } else {
-        "copy brought up to date\n"
-    }
+    let Joined {
+        first,
+        second,
+        judged,
+    } = joined;
+    let PairTexts {
+        names,
+        line,
+        people,
+    } = texts;
+    let server = PairServer::new(first, second, disks, rt.errors());
+    let (host, texts, minutes) = (&shown.host, shown.texts, shown.minutes);
+    let (open, clock) = (host.open_boards, ServerClock::new(rt));
+    let mut pages = pages_over(
+        alloc, names, texts, people, server, cache, desk, open, clock,
+    );
+    let line = line.as_str();
+    show_pair_at(rt, alloc, host, minutes, judged, line, &mut pages, output)
 }
 
-/// Shows pages over a session that was opened on two disks, with what stands beside it.
+/// The same, or memory was refused for what they begin with.
 fn show_joined_with<N: Host, W: Write>(
     rt: &N,
     alloc: Global,
@@ -190,28 +226,10 @@ fn show_joined_with<N: Host, W: Write>(
     ensures { ShowsJoinedWith shown.now.texts shown.now.host (stream W.contents output.old output.new) result shown.now.names
         disks joined.judged joined.first joined.second }
 {
-    let Joined {
-        first,
-        second,
-        judged,
-    } = joined;
-    let Ok(names) = names_of(alloc, &shown.host) else {
-        return Err(RunFault::Store(StoreFault::NoMemory));
-    };
-    let Ok(line) = pair_line(alloc, judged.was_level, names.host()) else {
-        return Err(RunFault::Store(StoreFault::NoMemory));
-    };
-    let Ok(people) = people_of(alloc, shown.names, &first) else {
-        return Err(RunFault::Store(StoreFault::NoMemory));
-    };
-    let server = PairServer::new(first, second, disks, rt.errors());
-    let (host, texts, minutes) = (&shown.host, shown.texts, shown.minutes);
-    let (open, clock) = (host.open_boards, ServerClock::new(rt));
-    let mut pages = pages_over(
-        alloc, names, texts, people, server, cache, desk, open, clock,
-    );
-    let line = line.as_str();
-    show_pair_at(rt, alloc, host, minutes, judged, line, &mut pages, output)
+    match texts_of(alloc, shown, joined.judged, &joined.first) {
+        Err(_) => Err(RunFault::Store(StoreFault::NoMemory)),
+        Ok(texts) => show_begun(rt, alloc, shown, joined, texts, disks, cache, desk, output),
+    }
 }
 
 /// Shows pages for so many minutes over a session that was opened on two disks. A list with another number of pairs than the

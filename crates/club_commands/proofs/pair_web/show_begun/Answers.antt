@@ -1,13 +1,12 @@
-use Rattle.std.proofs.Common.{◌∙◌, ◌++◌, ap, sym, List, ℕ}
+use Rattle.std.proofs.Common.{◌∙◌, ap, sym, List, ℕ}
 use Rattle.std.specs.String.{string_bytes}
 use Rattle.table_pages.specs.declared.host_names.HostNames.{HostNames}
-use Rattle.club_commands.specs.PairWeb.{level_line}
-use Rattle.club_commands.specs.Web.{listening_line}
+use Rattle.club_commands.specs.PairWeb.{begun_line}
 use Rattle.line_text.specs.Streams.{stream}
 use Rattle.table_pages.specs.Site.{site_of}
 use Rattle.club_commands.proofs.Shown.{made_site}
 use Rattle.club_commands.proofs.PairShown.{settled_pair, joined_shown}
-use Rattle.club_commands.proofs.pair_web.show_joined_with.Goals as goal
+use Rattle.club_commands.proofs.pair_web.show_begun.Goals as goal
 
 pub returns : goal.returns
 returns g c =
@@ -16,8 +15,8 @@ returns g c =
     joined_shown shown.texts shown.host shown.names c.args.disks c.args.joined.judged c.args.joined.first c.args.joined.second
     (site_of pages.texts pages.names pages.people.items) c.new-server.result pages.server c.show_pair_at.new.pages.server
     (stream g.W.Write.contents c.args.output.now c.show_pair_at.new.output) c.show_pair_at.result
-    (made_site shown.host pages.texts shown.texts pages.names c.in-Ok.names _ _ c.pages_over-pages.ensures.names c.pages_over-pages.ensures.texts
-    (ap (λ people. people.items) c.pages_over-pages.ensures.people ∙ c.in-Ok-people_of.ensures) c.in-Ok.ensures.host c.in-Ok.ensures.alias)
+    (made_site shown.host pages.texts shown.texts pages.names c.args.texts.names _ _ c.pages_over-pages.ensures.names c.pages_over-pages.ensures.texts
+    (ap (λ people. people.items) c.pages_over-pages.ensures.people ∙ c.requires.begins.people) c.requires.begins.host c.requires.begins.alias)
     c.pages_over-pages.ensures.server
     (record {
       first = c.new-server.ensures.first;
@@ -34,7 +33,7 @@ pages_over-pages-requires g c =
 
 pub show_pair_at-requires : goal.show_pair_at-requires
 show_pair_at-requires g c = record {
-  line = c.as_str-line.ensures.value ∙ c.in-Ok-pair_line.ensures
-      ∙ ap (λ (host : List ℕ). level_line c.args.joined.judged.was_level ++ listening_line host)
-      (c.host.ensures ∙ ap (λ (names : HostNames). string_bytes names.host) (sym c.pages_over-pages.ensures.names));
+  line = c.as_str-line.ensures.value ∙ c.requires.begins.line
+      ∙ ap (λ (host : List ℕ). begun_line c.args.joined.judged host)
+      (ap (λ (names : HostNames). string_bytes names.host) (sym c.pages_over-pages.ensures.names));
 }
