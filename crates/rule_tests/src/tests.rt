@@ -9,6 +9,7 @@ mod score;
 mod text;
 mod values;
 
+use bridge_cards::{Deal, read_deal};
 use std::fmt::Debug;
 use std::process::Abort;
 
@@ -20,4 +21,9 @@ pub fn expect_eq<T: PartialEq + Debug + Drop>(
     row: impl Debug + Drop,
 ) {
     assert_eq!(rt; found, due, "{row:?}");
+}
+
+/// The deal of that text.
+pub fn deal_of(rt: &impl Abort, text: &[u8]) -> Deal {
+    read_deal(text).ok().expect(rt, "a deal")
 }

@@ -8,58 +8,56 @@ use bridge_auction::Denomination;
 use bridge_cards::{BoardNumber, Seat, Side, Suit, Vulnerability, dealer, vulnerability_of};
 use std::test::Fail;
 
-/// The table of Law 2, for boards 1 to 16, after which it repeats.
-static BOARDS: [(u8, Seat, Vulnerability); 16] = [
-    (1, Seat::North, Vulnerability::Neither),
-    (2, Seat::East, Vulnerability::NorthSouth),
-    (3, Seat::South, Vulnerability::EastWest),
-    (4, Seat::West, Vulnerability::Both),
-    (5, Seat::North, Vulnerability::NorthSouth),
-    (6, Seat::East, Vulnerability::EastWest),
-    (7, Seat::South, Vulnerability::Both),
-    (8, Seat::West, Vulnerability::Neither),
-    (9, Seat::North, Vulnerability::EastWest),
-    (10, Seat::East, Vulnerability::Both),
-    (11, Seat::South, Vulnerability::Neither),
-    (12, Seat::West, Vulnerability::NorthSouth),
-    (13, Seat::North, Vulnerability::Both),
-    (14, Seat::East, Vulnerability::Neither),
-    (15, Seat::South, Vulnerability::NorthSouth),
-    (16, Seat::West, Vulnerability::EastWest),
+/// The table of Law 2, for boards 1 to 16 in turn, after which it repeats.
+static BOARDS: [(Seat, Vulnerability); 16] = [
+    (Seat::North, Vulnerability::Neither),
+    (Seat::East, Vulnerability::NorthSouth),
+    (Seat::South, Vulnerability::EastWest),
+    (Seat::West, Vulnerability::Both),
+    (Seat::North, Vulnerability::NorthSouth),
+    (Seat::East, Vulnerability::EastWest),
+    (Seat::South, Vulnerability::Both),
+    (Seat::West, Vulnerability::Neither),
+    (Seat::North, Vulnerability::EastWest),
+    (Seat::East, Vulnerability::Both),
+    (Seat::South, Vulnerability::Neither),
+    (Seat::West, Vulnerability::NorthSouth),
+    (Seat::North, Vulnerability::Both),
+    (Seat::East, Vulnerability::Neither),
+    (Seat::South, Vulnerability::NorthSouth),
+    (Seat::West, Vulnerability::EastWest),
 ];
+
+static SUITS: [Suit; 4] = Suit::ALL;
+
+static SEATS: [Seat; 4] = Seat::ALL;
+
+static SIDES: [Side; 2] = Side::ALL;
+
+static DENOMINATIONS: [Denomination; 5] = Denomination::ALL;
 
 #[test]
 fn lists_of_all_stand_in_order(rt: HostRuntime) {
     for index in 0..4 {
-        let (suit, seat) = (Suit::ALL[index], Seat::ALL[index]);
-        expect_eq(&rt, usize::from(suit.number()), index, suit);
-        expect_eq(&rt, usize::from(seat.number()), index, seat);
+        expect_eq(&rt, usize::from(SUITS[index].number()), index, "suit");
+        expect_eq(&rt, usize::from(SEATS[index].number()), index, "seat");
     }
     for index in 0..5 {
-        let denomination = Denomination::ALL[index];
-        expect_eq(&rt, usize::from(denomination.number()), index, denomination);
+        let number = DENOMINATIONS[index].number();
+        expect_eq(&rt, usize::from(number), index, "denomination");
     }
     for index in 0..2 {
-        let seat = Seat::ALL[index];
-        expect_eq(&rt, seat.side(), Side::ALL[index], seat);
+        expect_eq(&rt, SEATS[index].side(), SIDES[index], index);
     }
 }
 
 #[test]
 fn boards_follow_the_table(rt: HostRuntime) -> Result<(), Fail> {
-    for (number, seat, vulnerability) in BOARDS {
-        for repeat in [0, 16, 32] {
-            if number <= BoardNumber::MAX - repeat {
-                let board = BoardNumber::new(number + repeat).ok_or("a board from 1 to 36")?;
-                expect_eq(&rt, dealer(board), seat, (number, repeat));
-                expect_eq(
-                    &rt,
-                    vulnerability_of(board),
-                    vulnerability,
-                    (number, repeat),
-                );
-            }
-        }
+    for number in 1..=BoardNumber::MAX {
+        let board = BoardNumber::new(number).ok_or("a board from 1 to 36")?;
+        let (seat, vulnerability) = BOARDS[usize::from(number - 1) % 16];
+        expect_eq(&rt, dealer(board), seat, number);
+        expect_eq(&rt, vulnerability_of(board), vulnerability, number);
     }
     Ok(())
 }

@@ -5,27 +5,17 @@ mod random_endings;
 mod rows;
 mod twin;
 
-use bridge_cards::{CardSet, Deal, Seat, Suit, read_hands};
+use bridge_cards::{CardSet, Seat, Suit, read_hands};
 use bridge_endings::Ending;
-use std::test::Fail;
+use std::process::Abort;
 
 /// The hands of that text.
-pub fn hands_of(text: &[u8]) -> Result<[CardSet; 4], Fail> {
-    Ok(read_hands(text).ok_or("four hands")?)
-}
-
-/// The deal of that text.
-pub fn deal_of(text: &[u8]) -> Result<Deal, Fail> {
-    let Ok(deal) = Deal::from_hands(hands_of(text)?) else {
-        return Err(Fail::from("a deal"));
-    };
-    Ok(deal)
+pub fn hands_of(rt: &impl Abort, text: &[u8]) -> [CardSet; 4] {
+    read_hands(text).expect(rt, "four hands")
 }
 
 /// The ending of that text.
-pub fn ending_of(text: &[u8], trump: Option<Suit>, leader: Seat) -> Result<Ending, Fail> {
-    let Ok(ending) = Ending::new(hands_of(text)?, trump, leader) else {
-        return Err(Fail::from("an ending"));
-    };
-    Ok(ending)
+pub fn ending_of(rt: &impl Abort, text: &[u8], trump: Option<Suit>, leader: Seat) -> Ending {
+    let ending = Ending::new(hands_of(rt, text), trump, leader);
+    ending.ok().expect(rt, "an ending")
 }

@@ -61,9 +61,14 @@ fn row(numbers: [u8; 5]) -> Row {
     }
 }
 
+/// The rows of the good movement.
+fn good() -> [Row; 4] {
+    [row(GOOD[0]), row(GOOD[1]), row(GOOD[2]), row(GOOD[3])]
+}
+
 /// The good movement with some rows changed.
 fn changed(changes: &[(usize, [u8; 5])]) -> [Row; 4] {
-    let mut rows = GOOD.map(row);
+    let mut rows = good();
     for (index, numbers) in changes {
         if let Some(changed) = rows.get_mut(*index) {
             *changed = row(*numbers);
@@ -79,19 +84,33 @@ fn refusal(shape: Shape, rows: &[Row]) -> Option<MovementRefused>
     Movement::from_rows(shape, rows).err()
 }
 
+/// The place of East and West at that table with that set.
+fn east_west(table: u8, set: u8) -> Option<Place> {
+    Some(Place {
+        table,
+        side: Side::EastWest,
+        set,
+    })
+}
+
 #[test]
 fn mitchell_of_four_tables(rt: HostRuntime) {
     let movement = Movement::mitchell(4);
     expect_eq(&rt, movement.shape().rounds, 3, "rounds");
-    for (round, table, set) in [(1, 1, 1), (2, 2, 3), (3, 4, 2)] {
-        let place = Place {
-            table,
-            side: Side::EastWest,
-            set,
-        };
-        expect_eq(&rt, movement.place(round, 5), Some(place), round);
-    }
+    expect_eq(&rt, movement.place(1, 5), east_west(1, 1), 1);
+    expect_eq(&rt, movement.place(2, 5), east_west(2, 3), 2);
+    expect_eq(&rt, movement.place(3, 5), east_west(4, 2), 3);
     expect_eq(&rt, movement.place(1, 9), None, "there is no pair 9");
+}
+
+/// The row of a round and table, if there is one.
+fn row_at(movement: &Movement, round: u8, table: u8) -> Option<Row> {
+    let shape = movement.shape();
+    if 1 <= round && round <= shape.rounds && 1 <= table && table <= shape.tables {
+        Some(movement.row(round, table))
+    } else {
+        None
+    }
 }
 
 #[test]
@@ -102,10 +121,9 @@ fn mitchell_moves_pairs_and_sets(rt: HostRuntime) {
         let rows = mitchell_rows(tables);
         let count = usize::from(shape.rounds) * usize::from(tables);
         expect_eq(&rt, rows.len(), count, tables);
-        for due in &rows {
-            if (1..=shape.rounds).contains(&due.round) && (1..=shape.tables).contains(&due.table) {
-                expect_eq(&rt, movement.row(due.round, due.table), *due, tables);
-            }
+        for due in rows.as_slice() {
+            let found = row_at(&movement, due.round, due.table);
+            expect_eq(&rt, found, Some(*due), tables);
         }
     }
 }
@@ -121,7 +139,7 @@ fn rows_at_fault_are_refused(rt: HostRuntime) {
 
 #[test]
 fn rows_lacking_or_left_over_are_refused(rt: HostRuntime) {
-    let rows = GOOD.map(row);
+    let rows = good();
     for count in 0..4 {
         let refused = MovementRefused::MissingRow(count as u16 + 1);
         let found = refusal(TWO_TABLE_SHAPE, &rows[..count]);

@@ -1,4 +1,5 @@
 //! Writers that fail.
+use crate::tests::expect_eq;
 use arrayvec::{ArrayString, ArrayVec};
 use line_text::{push_refusal, write_text};
 use std::io::{Error, ErrorKind, Result, Write};
@@ -63,15 +64,23 @@ static ROWS: [Row; 4] = [
     ),
 ];
 
+/// The kind of the error, if it is one.
+fn kind_of(answer: Result<()>) -> Option<ErrorKind> {
+    match answer {
+        Ok(()) => None,
+        Err(error) => Some(error.kind()),
+    }
+}
+
 #[test]
 fn texts_are_written_whole_or_to_the_first_error(rt: HostRuntime) {
+    let mut text = ArrayString::<29>::new();
+    push_refusal(&mut text, 30, "BadLine");
     for (room, fails, flush_fails, taken, error, flushes) in ROWS.as_slice() {
         let mut writer = pen_with(*room, *fails, *flush_fails);
-        let mut text = ArrayString::<29>::new();
-        push_refusal(&mut text, 30, "BadLine");
         let result = write_text(&mut writer, text.as_str().as_bytes());
-        assert!(rt; writer.taken.as_slice() == taken.as_bytes());
-        assert!(rt; result.err().map(|error| error.kind()) == *error);
-        assert!(rt; writer.flushes == *flushes);
+        expect_eq(&rt, writer.taken.as_slice(), taken.as_bytes(), *room);
+        expect_eq(&rt, kind_of(result), *error, *room);
+        expect_eq(&rt, writer.flushes, *flushes, *room);
     }
 }

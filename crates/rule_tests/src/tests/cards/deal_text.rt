@@ -1,10 +1,9 @@
 //! Texts of hands and deals.
-use crate::tests::expect_eq;
+use crate::tests::{deal_of, expect_eq};
 use arrayvec::ArrayString;
 use bridge_cards::{BadDeal, Seat, print_deal, read_deal, read_hands};
 use std::alloc::{AllocError, Global};
 use std::process::Abort;
-use std::test::Fail;
 
 /// A suit to each hand, and four cards of one suit and three of each other to each hand.
 static DEALS: [&[u8]; 2] = [
@@ -12,38 +11,75 @@ static DEALS: [&[u8]; 2] = [
     b"N:AKQJ.T98.765.432 T98.765.432.AKQJ 765.432.AKQJ.T98 432.AKQJ.T98.765",
 ];
 
-/// The hands that a text states, North's first, as sets of bits, by a walk over its bytes that keeps
-/// the hand and the suit in which it is.
-fn hands_of(text: &[u8]) -> Option<[u64; 4]> {
-    let mut hand = b"NESW"
-        .iter()
-        .position(|letter| text.first() == Some(letter))?;
-    if text.get(1) != Some(&b':') {
-        return None;
+/// Where the letter stands among these.
+fn place_in(letters: &[u8], wanted: u8) -> Option<u32> {
+    let mut place: u32 = 0;
+    for letter in letters {
+        if *letter == wanted {
+            return Some(place);
+        }
+        place = place.wrapping_add(1);
     }
-    let mut hands = [0; 4];
-    let mut done = 0;
-    let mut lowest: u64 = 1 << 39;
-    for byte in text.iter().skip(2) {
-        match byte {
-            b' ' if lowest == 1 && done < 3 => {
-                done += 1;
-                hand = (hand % 4 + 1) % 4;
-                lowest = 1 << 39;
-            }
-            b'.' if lowest > 1 => lowest >>= 13,
-            _ => {
-                let rank = b"23456789TJQKA".iter().position(|letter| letter == byte)?;
-                let card = lowest.checked_shl(rank as u32)?;
-                let held: &mut u64 = hands.get_mut(hand)?;
-                if *held & card != 0 {
-                    return None;
-                }
-                *held |= card;
-            }
+    None
+}
+
+/// A walk over the bytes of four hands: in whose hand and in which suit it is, by the bit of the suit's lowest card, how many
+/// hands it has left behind, and the cards so far.
+#[derive(Drop)]
+struct Walk {
+    hand: u32,
+    lowest: u64,
+    done: u8,
+    hands: [u64; 4],
+}
+
+impl Walk {
+    /// Takes a card of that rank, if there is such a rank and the hand has not the card.
+    fn take(&mut self, rank: Option<u32>) -> Option<()> {
+        let card = self.lowest.wrapping_shl(rank?);
+        let hand = (self.hand % 4) as usize;
+        if self.hands[hand] & card != 0 {
+            return None;
+        }
+        self.hands[hand] |= card;
+        Some(())
+    }
+
+    /// Goes over a byte that may stand there.
+    fn step(&mut self, byte: u8) -> Option<()> {
+        if byte == b' ' && self.lowest == 1 && self.done < 3 {
+            self.done += 1;
+            self.hand = (self.hand % 4 + 1) % 4;
+            self.lowest = SPADES;
+            Some(())
+        } else if byte == b'.' && self.lowest > 1 {
+            self.lowest >>= 13;
+            Some(())
+        } else {
+            self.take(place_in(b"23456789TJQKA", byte))
         }
     }
-    (lowest == 1 && done == 3).then_some(hands)
+}
+
+/// The bit of the lowest spade, with which each hand begins.
+const SPADES: u64 = 1 << 39;
+
+/// The hands that a text states, North's first, as sets of bits.
+fn hands_of(text: &[u8]) -> Option<[u64; 4]> {
+    let hand = place_in(b"NESW", *text.first()?)?;
+    if *text.get(1)? != b':' {
+        return None;
+    }
+    let mut walk = Walk {
+        hand,
+        lowest: SPADES,
+        done: 0,
+        hands: [0; 4],
+    };
+    for byte in &text[2..] {
+        walk.step(*byte)?;
+    }
+    (walk.lowest == 1 && walk.done == 3).then_some(walk.hands)
 }
 
 /// The text with these bytes in place of the one at that index.
@@ -71,52 +107,43 @@ fn bits_read(text: &[u8]) -> Option<[u64; 4]> {
 }
 
 /// Fails with the text, with these bytes in place of the one at that index, where it is not read as the walk reads it.
-fn expect_read(
-    rt: &impl Abort,
-    alloc: Global,
-    deal: &[u8],
-    index: usize,
-    bytes: &[u8],
-) -> Result<(), AllocError> {
-    let text = with_bytes(alloc, deal, index, bytes)?;
+fn expect_read(rt: &impl Abort, alloc: Global, deal: &[u8], index: usize, bytes: &[u8]) {
+    let text = with_bytes(alloc, deal, index, bytes);
+    let text = text.ok().expect(rt, "memory");
     let is_due = bits_read(&text) == hands_of(&text);
     expect_eq(rt, is_due, true, text.as_slice());
-    Ok(())
 }
 
 #[test]
-fn texts_are_read_where_they_are_in_form(rt: HostRuntime) -> Result<(), AllocError> {
+fn texts_are_read_where_they_are_in_form(rt: HostRuntime) {
     for deal in DEALS.as_slice() {
         for (index, old) in deal.iter().enumerate() {
             for new in 0..=255 {
-                expect_read(&rt, rt.alloc(), deal, index, &[new])?;
+                expect_read(&rt, rt.alloc(), deal, index, &[new]);
             }
-            expect_read(&rt, rt.alloc(), deal, index, &[])?;
-            expect_read(&rt, rt.alloc(), deal, index, &[*old, *old])?;
+            expect_read(&rt, rt.alloc(), deal, index, &[]);
+            expect_read(&rt, rt.alloc(), deal, index, &[*old, *old]);
         }
     }
-    Ok(())
 }
 
 #[test]
-fn deals_are_printed_from_the_highest_rank_down(rt: HostRuntime) -> Result<(), Fail> {
+fn deals_are_printed_from_the_highest_rank_down(rt: HostRuntime) {
     for text in DEALS.as_slice() {
-        let deal = read_deal(text).map_err(|_| "a deal")?;
+        let deal = deal_of(&rt, text);
         let mut printed = ArrayString::new();
         print_deal(&deal, Seat::North, &mut printed);
         expect_eq(&rt, printed.as_str().as_bytes(), *text, printed.as_str());
     }
-    Ok(())
 }
 
 #[test]
-fn ranks_are_read_in_any_order(rt: HostRuntime) -> Result<(), Fail> {
-    let deal = read_deal(DEALS[0]).map_err(|_| "a deal")?;
+fn ranks_are_read_in_any_order(rt: HostRuntime) {
+    let deal = deal_of(&rt, DEALS[0]);
     let north = deal.hand(Seat::North);
     expect_eq(&rt, north.bits(), 0x000f_ff80_0000_0000, "North");
     let other = b"S:..48AKJ76T9Q532. ...AKQJT98765432 23456789TJQKA... .AKQJT98765432..";
     expect_eq(&rt, read_deal(other), Ok(deal), "South first");
-    Ok(())
 }
 
 /// Texts that are no deal, and why.

@@ -1,8 +1,7 @@
 //! The shuffle, written out from its published form.
 use crate::tests::expect_eq;
-use bridge_cards::{BoardNumber, Seat, deal_board};
+use bridge_cards::{BoardNumber, deal_board};
 use std::process::Abort;
-use std::test::Fail;
 
 /// The words of ChaCha20 in turn, with the seed as the key, on the stream of that number.
 #[derive(Drop)]
@@ -163,7 +162,8 @@ fn expected_hands(seed: &[u8; 32], board: u8) -> Option<[u64; 4]> {
 /// The hands that `deal_board` deals, in the same form.
 fn hands_dealt(seed: &[u8; 32], board: u8) -> Option<[u64; 4]> {
     let deal = deal_board(seed, BoardNumber::new(board)?);
-    Some(Seat::ALL.map(|seat| deal.hand(seat).bits()))
+    let [north, east, south, west] = deal.hands();
+    Some([north.bits(), east.bits(), south.bits(), west.bits()])
 }
 
 /// The zero seed, or the one whose only set bit is that of this number.
@@ -210,30 +210,23 @@ fn the_block_is_that_of_the_rfc(rt: HostRuntime) {
 }
 
 /// Deals a board from a seed: as the shuffle does, and as no board was dealt before.
-fn deal_anew(
-    rt: &impl Abort,
-    seen: &mut Vec<[u64; 4]>,
-    seed: &[u8; 32],
-    board: u8,
-) -> Result<(), Fail> {
-    let hands = hands_dealt(seed, board).ok_or("a board from 1 to 36")?;
+fn deal_anew(rt: &impl Abort, seen: &mut Vec<[u64; 4]>, seed: &[u8; 32], board: u8) {
+    let hands = hands_dealt(seed, board).expect(rt, "a board from 1 to 36");
     let is_due = expected_hands(seed, board) == Some(hands);
     expect_eq(rt, is_due, true, (*seed, board));
     expect_eq(rt, seen.contains(&hands), false, (*seed, board));
-    seen.push(hands)?;
-    Ok(())
+    expect_eq(rt, seen.push(hands).is_ok(), true, "memory");
 }
 
 #[test]
-fn deals_are_those_of_the_shuffle_and_differ(rt: HostRuntime) -> Result<(), Fail> {
+fn deals_are_those_of_the_shuffle_and_differ(rt: HostRuntime) {
     let mut seen = Vec::new(rt.alloc());
     for board in 1..=BoardNumber::MAX {
-        deal_anew(&rt, &mut seen, &seed_of(None), board)?;
+        deal_anew(&rt, &mut seen, &seed_of(None), board);
     }
     for bit in 0..=255 {
         let seed = seed_of(Some(bit));
-        deal_anew(&rt, &mut seen, &seed, 1)?;
-        deal_anew(&rt, &mut seen, &seed, BoardNumber::MAX)?;
+        deal_anew(&rt, &mut seen, &seed, 1);
+        deal_anew(&rt, &mut seen, &seed, BoardNumber::MAX);
     }
-    Ok(())
 }

@@ -5,6 +5,14 @@ use bridge_movement::{Row, Shape};
 use std::test::Fail;
 use test_texts::TWO_TABLES;
 
+/// The keys of each pair.
+static KEYS: [[Key; 2]; 4] = [
+    [Key(11), Key(12)],
+    [Key(21), Key(22)],
+    [Key(31), Key(32)],
+    [Key(41), Key(42)],
+];
+
 #[test]
 fn the_text_of_two_tables_is_read(rt: HostRuntime) -> Result<(), Fail> {
     let config = read_config(TWO_TABLES.as_bytes())?;
@@ -25,10 +33,9 @@ fn the_text_of_two_tables_is_read(rt: HostRuntime) -> Result<(), Fail> {
         set: 1,
     };
     expect_eq(&rt, fields.movement.row(1, 2), row, "row");
-    let keys = [[11, 12], [21, 22], [31, 32], [41, 42]];
-    expect_eq(&rt, fields.pairs.len(), keys.len(), "pairs");
-    for (pair, due) in fields.pairs.iter().zip(keys) {
-        expect_eq(&rt, pair.keys, due.map(Key), due);
+    expect_eq(&rt, fields.pairs.len(), KEYS.len(), "pairs");
+    for (index, pair) in fields.pairs.iter().enumerate() {
+        expect_eq(&rt, Some(&pair.keys), KEYS.get(index), index);
     }
     Ok(())
 }

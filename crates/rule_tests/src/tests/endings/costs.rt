@@ -1,14 +1,13 @@
 //! What cards gave away: two plays worked by hand, and random plays beside the plain search.
-use super::deal_of;
 use super::deals::HANDS;
 use super::random_endings::next;
-use super::twin::{Played, may_follow, worth};
-use crate::tests::expect_eq;
+use super::twin::{Played, may_follow, without, worth};
+use crate::tests::{deal_of, expect_eq};
 use arrayvec::ArrayVec;
 use bridge_cards::{Card, CardSet, DECK, Seat, Side, Suit, read_card};
 use bridge_endings::{CardCost, DealSolver};
+use std::alloc::AllocError;
 use std::process::Abort;
-use std::test::Fail;
 
 /// South runs eleven clubs. Then North has the ace and queen of spades, behind West's king and jack, or before East's.
 const FINESSE_WINS: &[u8] =
@@ -87,7 +86,7 @@ impl Table {
     }
 
     fn play(&mut self, card: Card, trump: Option<Suit>) {
-        self.hands = self.hands.map(|hand| hand.without(card));
+        self.hands = without(self.hands, card);
         let _ = self.cards.try_push(card);
         self.trick = self.trick.with(card);
         if self.trick.len() == 4 {
@@ -148,14 +147,15 @@ fn expect_finesse(
 }
 
 #[test]
-fn one_card_gives_a_trick_away(rt: HostRuntime) -> Result<(), Fail> {
+fn one_card_gives_a_trick_away(rt: HostRuntime) -> Result<(), AllocError> {
     for finesse in FINESSES.as_slice() {
-        let deal = deal_of(finesse.0)?;
-        let mut table = Table::new(deal.hands(), None, Seat::East);
-        play_all(&mut table, finesse.1.as_slice()).ok_or("a card")?;
+        let deal = deal_of(&rt, finesse.0);
         let mut solver = DealSolver::new(rt.alloc(), &deal)?;
-        let cards = table.cards.as_slice();
-        expect_finesse(&rt, &mut solver, cards, finesse).ok_or("costs")?;
+        let mut table = Table::new(deal.hands(), None, Seat::East);
+        let played = play_all(&mut table, finesse.1.as_slice());
+        expect_eq(&rt, played.is_some(), true, "a card");
+        let found = expect_finesse(&rt, &mut solver, table.cards.as_slice(), finesse);
+        expect_eq(&rt, found.is_some(), true, "costs");
     }
     Ok(())
 }
@@ -227,22 +227,31 @@ fn expect_no_costs(rt: &impl Abort, solver: &mut DealSolver, first: Card, game: 
     expect_eq(rt, costs, None, "a card twice");
 }
 
+/// Plays a game at random. The result is none where a card or a cost is lacking.
+fn expect_game(
+    rt: &impl Abort,
+    solver: &mut DealSolver,
+    table: &mut Table,
+    game: &Game,
+    state: &mut u32,
+) -> Option<()> {
+    let (seats, won) = play_at_random(rt, solver, table, game, state)?;
+    let cards = table.cards.as_slice();
+    expect_no_costs(rt, solver, *cards.first()?, game);
+    let costs = solver.costs(game.1, game.2, cards)?;
+    expect_costs(rt, costs.as_slice(), &seats, &won, game.0)
+}
+
 // Random cards; of the last twelve the plain search says what they cost.
 #[test]
-fn costs_are_those_of_the_plain_search(rt: HostRuntime) -> Result<(), Fail> {
+fn costs_are_those_of_the_plain_search(rt: HostRuntime) -> Result<(), AllocError> {
     let mut state = 5;
     for game in GAMES.as_slice() {
-        let (text, trump, declarer) = *game;
-        let deal = deal_of(text)?;
-        let mut table = Table::new(deal.hands(), trump, declarer);
+        let deal = deal_of(&rt, game.0);
         let mut solver = DealSolver::new(rt.alloc(), &deal)?;
-        let course = play_at_random(&rt, &mut solver, &mut table, game, &mut state);
-        let (seats, won) = course.ok_or("a card")?;
-        let cards = table.cards.as_slice();
-        let costs = solver.costs(trump, declarer, cards).ok_or("costs")?;
-        expect_costs(&rt, costs.as_slice(), &seats, &won, text).ok_or("a cost")?;
-        let first = *cards.first().ok_or("a card")?;
-        expect_no_costs(&rt, &mut solver, first, game);
+        let mut table = Table::new(deal.hands(), game.1, game.2);
+        let found = expect_game(&rt, &mut solver, &mut table, game, &mut state);
+        expect_eq(&rt, found.is_some(), true, "cards and their costs");
     }
     Ok(())
 }

@@ -50,7 +50,12 @@ fn dealt_by(deck: &[u8], base: u32, number: u32) -> [CardSet; 4]
 
 /// Whether each hand has so many cards.
 fn have(hands: &[CardSet; 4], count: usize) -> bool {
-    hands.iter().all(|hand| hand.len() == count)
+    for hand in hands.as_slice() {
+        if hand.len() != count {
+            return false;
+        }
+    }
+    true
 }
 
 #[test]

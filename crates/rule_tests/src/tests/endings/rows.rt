@@ -3,7 +3,7 @@ use super::{ending_of, hands_of};
 use crate::tests::expect_eq;
 use bridge_cards::{Seat, Suit};
 use bridge_endings::{Cache, Ending, EndingRefused, solve};
-use std::test::Fail;
+use std::alloc::AllocError;
 
 const FINESSE_LOSES: &[u8] = b"N:AQ... KJ... 54... 32...";
 
@@ -27,10 +27,10 @@ static WORTHS: [(&[u8], Option<Suit>, Seat, u8); 8] = [
 
 // The endings take turns in a cache that keeps one of them.
 #[test]
-fn worths_are_those_of_the_rows(rt: HostRuntime) -> Result<(), Fail> {
+fn worths_are_those_of_the_rows(rt: HostRuntime) -> Result<(), AllocError> {
     let mut cache = Cache::new(rt.alloc(), 1)?;
     for (text, trump, leader, worth) in WORTHS.as_slice() {
-        let ending = ending_of(text, *trump, *leader)?;
+        let ending = ending_of(&rt, text, *trump, *leader);
         expect_eq(&rt, solve(&ending, None), *worth, *text);
         expect_eq(&rt, solve(&ending, Some(&mut cache)), *worth, *text);
     }
@@ -38,10 +38,10 @@ fn worths_are_those_of_the_rows(rt: HostRuntime) -> Result<(), Fail> {
 }
 
 #[test]
-fn a_kept_ending_is_answered_without_a_card(rt: HostRuntime) -> Result<(), Fail> {
+fn a_kept_ending_is_answered_without_a_card(rt: HostRuntime) -> Result<(), AllocError> {
     let mut cache = Cache::new(rt.alloc(), 16)?;
     expect_eq(&rt, cache.tried(), 0, "a new cache");
-    let ending = ending_of(FINESSE_LOSES, None, Seat::South)?;
+    let ending = ending_of(&rt, FINESSE_LOSES, None, Seat::South);
     expect_eq(&rt, solve(&ending, Some(&mut cache)), 1, "searched");
     let tried = cache.tried();
     expect_eq(&rt, tried > 0, true, "cards are tried");
@@ -51,9 +51,8 @@ fn a_kept_ending_is_answered_without_a_card(rt: HostRuntime) -> Result<(), Fail>
 }
 
 #[test]
-fn hands_of_seven_cards_are_no_ending(rt: HostRuntime) -> Result<(), Fail> {
-    let hands = hands_of(b"N:AKQJT98... .AKQJT98.. ..AKQJT98. ...AKQJT98")?;
+fn hands_of_seven_cards_are_no_ending(rt: HostRuntime) {
+    let hands = hands_of(&rt, b"N:AKQJT98... .AKQJT98.. ..AKQJT98. ...AKQJT98");
     let answer = Ending::new(hands, None, Seat::North);
     expect_eq(&rt, answer, Err(EndingRefused::TooLong), "seven cards each");
-    Ok(())
 }

@@ -21,7 +21,13 @@ impl Played {
 
     /// How many cards were played, four at most.
     pub fn len(&self) -> usize {
-        self.cards.iter().filter(|card| card.is_some()).count()
+        let mut played = 0usize;
+        for card in self.cards.as_slice() {
+            if card.is_some() {
+                played = played.saturating_add(1);
+            }
+        }
+        played
     }
 
     /// The card led, if one was.
@@ -48,11 +54,11 @@ impl Played {
     fn height(&self, card: Card) -> u8 {
         let index = card.number() % 13;
         if Some(card.suit()) == self.trump {
-            27 + index
-        } else if Some(card.suit()) == self.cards[0].map(|led| led.suit()) {
-            14 + index
-        } else {
-            0
+            return 27 + index;
+        }
+        match self.led() {
+            Some(led) if led.suit() == card.suit() => 14 + index,
+            _ => 0,
         }
     }
 
@@ -61,10 +67,12 @@ impl Played {
         let mut winner = self.leader;
         let mut highest = 0;
         for (index, card) in self.cards.iter().enumerate() {
-            let height = card.map_or(0, |card| self.height(card));
-            if height > highest {
-                highest = height;
-                winner = self.leader.clockwise(index);
+            if let Some(card) = card {
+                let height = self.height(*card);
+                if height > highest {
+                    highest = height;
+                    winner = self.leader.clockwise(index);
+                }
             }
         }
         winner
@@ -73,10 +81,8 @@ impl Played {
 
 /// The tricks of North and South of the cards left, of which there are so many in all.
 pub fn worth(cards_left: u8, hands: [CardSet; 4], trick: Played) -> u8 {
-    let Some(index) = trick.cards.iter().position(|card| card.is_none()) else {
-        return 0;
-    };
-    if cards_left == 0 {
+    let index = trick.len();
+    if cards_left == 0 || index > 3 {
         return 0;
     }
     let seat = trick.leader.clockwise(index);
@@ -88,7 +94,7 @@ pub fn worth(cards_left: u8, hands: [CardSet; 4], trick: Played) -> u8 {
         if !may_follow(hand, after.cards[0], *card) {
             continue;
         }
-        let left = hands.map(|hand| hand.without(*card));
+        let left = without(hands, *card);
         let mut tricks = 0;
         if index == 3 {
             let winner = after.winner();
@@ -101,6 +107,17 @@ pub fn worth(cards_left: u8, hands: [CardSet; 4], trick: Played) -> u8 {
         best = Some(better(seat.side(), best, tricks));
     }
     best.unwrap_or(0)
+}
+
+/// The hands without the card.
+pub fn without(hands: [CardSet; 4], card: Card) -> [CardSet; 4] {
+    let [north, east, south, west] = hands;
+    [
+        north.without(card),
+        east.without(card),
+        south.without(card),
+        west.without(card),
+    ]
 }
 
 /// Whether the card is of the suit led, or the hand has none of it.

@@ -1,7 +1,7 @@
 //! Deals for tests of the play.
 use bridge_auction::{Bid, Contract, Denomination, Doubling, Level};
-use bridge_cards::{Deal, Seat, read_deal};
-use std::test::Fail;
+use bridge_cards::Seat;
+use std::process::Abort;
 
 /// Each hand has four cards in a row of one suit, and three of each other.
 pub const CARDS_IN_A_ROW: &[u8] =
@@ -15,27 +15,20 @@ pub const DIAMOND_VOID: &[u8] =
 pub const LONG_SPADES: &[u8] =
     b"N:873.AKJ9.T4.8754 2.853.K853.AJT63 AQJ.T76.Q976.K92 KT9654.Q42.AJ2.Q";
 
-/// The deal of that text.
-pub fn deal_of(text: &[u8]) -> Result<Deal, Fail> {
-    let Ok(deal) = read_deal(text) else {
-        return Err(Fail::from("a deal"));
-    };
-    Ok(deal)
-}
-
 /// The contract at that level in that denomination by that declarer, undoubled.
 pub fn contract_of(
+    rt: &impl Abort,
     level: u8,
     denomination: Denomination,
     declarer: Seat,
-) -> Result<Contract, Fail> {
-    let level = Level::new(level).ok_or("a level")?;
-    Ok(Contract {
+) -> Contract {
+    let level = Level::new(level).expect(rt, "a level");
+    Contract {
         bid: Bid {
             level,
             denomination,
         },
         doubling: Doubling::Undoubled,
         declarer,
-    })
+    }
 }

@@ -1,11 +1,10 @@
 //! Whole random plays: each card of the deck is taken or refused as the hands left say, and the highest card wins.
-use super::deals::{CARDS_IN_A_ROW, DIAMOND_VOID, LONG_SPADES, contract_of, deal_of};
-use crate::tests::expect_eq;
+use super::deals::{CARDS_IN_A_ROW, DIAMOND_VOID, LONG_SPADES, contract_of};
+use crate::tests::{deal_of, expect_eq};
 use bridge_auction::{Contract, Denomination};
-use bridge_cards::{Card, CardSet, Deal, Seat, Side};
+use bridge_cards::{Card, CardSet, Deal, Seat, Side, Suit};
 use bridge_play::{CardRefused, Play};
 use std::process::Abort;
-use std::test::Fail;
 
 /// The next of a fixed sequence of numbers.
 fn next(state: &mut u32) -> u32 {
@@ -24,14 +23,29 @@ fn height(trump: Denomination, led: Card, card: Card) -> u8 {
     }
 }
 
+/// Whether a card of the hand is of that suit.
+fn holds(hand: CardSet, suit: Suit) -> bool {
+    for held in hand.cards().as_slice() {
+        if held.suit() == suit {
+            return true;
+        }
+    }
+    false
+}
+
+/// Whether the card may follow the card led, if one was.
+fn follows(hand: CardSet, led: Option<Card>, card: Card) -> bool {
+    match led {
+        Some(led) => card.suit() == led.suit() || !holds(hand, led.suit()),
+        None => true,
+    }
+}
+
 /// The answer to a card of a hand in turn, after the card led, if one was.
 fn answer_due(hand: CardSet, led: Option<Card>, card: Card) -> Result<(), CardRefused> {
-    let follows = led.is_none_or(|led| {
-        card.suit() == led.suit() || !hand.cards().iter().any(|held| held.suit() == led.suit())
-    });
     if !hand.has(card) {
         Err(CardRefused::NotHeld)
-    } else if !follows {
+    } else if !follows(hand, led, card) {
         Err(CardRefused::MustFollow)
     } else {
         Ok(())
@@ -64,48 +78,67 @@ fn play_a_card(
     chosen
 }
 
-/// Plays all tricks of the deal. The result is none where a hand has no card left too early.
-fn play_all(rt: &impl Abort, deal: &Deal, contract: Contract, state: &mut u32) -> Option<()> {
-    let trump = contract.bid.denomination;
-    let mut play = Play::new(deal, contract);
-    let mut hands = Seat::ALL.map(|seat| deal.hand(seat));
-    let mut leader = contract.declarer.left();
+/// Plays a trick. The result is the seat of the highest card, and none where a hand has no card left too early.
+fn play_trick(
+    rt: &impl Abort,
+    play: &mut Play,
+    hands: &mut [CardSet; 4],
+    leader: Seat,
+    state: &mut u32,
+) -> Option<Seat> {
+    let trump = play.contract().bid.denomination;
+    let (mut winner, mut led, mut highest) = (leader, None, 0);
+    for places in 0..4 {
+        let seat = leader.clockwise(places);
+        expect_eq(rt, play.turn(), seat, play.cards());
+        let index = usize::from(seat.number());
+        let card = play_a_card(rt, play, hands[index], led, state)?;
+        hands[index] = hands[index].without(card);
+        led = led.or(Some(card));
+        let reached = height(trump, led?, card);
+        if reached > highest {
+            (winner, highest) = (seat, reached);
+        }
+    }
+    Some(winner)
+}
+
+/// Plays all tricks of the deal. The result is the seat of the last one's highest card.
+fn play_all(rt: &impl Abort, deal: &Deal, play: &mut Play, state: &mut u32) -> Option<Seat> {
+    let mut hands = deal.hands();
+    let mut leader = play.contract().declarer.left();
     let mut won = 0u8;
     for _ in 0..13 {
-        let (mut winner, mut led, mut highest) = (leader, None, 0);
-        for places in 0..4 {
-            let seat = leader.clockwise(places);
-            expect_eq(rt, play.turn(), seat, play.cards());
-            let hand = hands.get_mut(usize::from(seat.number()))?;
-            let card = play_a_card(rt, &mut play, *hand, led, state)?;
-            *hand = hand.without(card);
-            led = led.or(Some(card));
-            if height(trump, led?, card) > highest {
-                (winner, highest) = (seat, height(trump, led?, card));
-            }
-        }
-        leader = winner;
-        if winner.side() == Side::NorthSouth {
+        leader = play_trick(rt, play, &mut hands, leader, state)?;
+        if leader.side() == Side::NorthSouth {
             won = won.wrapping_add(1);
         }
         expect_eq(rt, play.tricks(Side::NorthSouth), won, play.cards());
     }
-    expect_eq(rt, play.is_over(), true, play.cards());
-    let over = play.try_card(leader, Card::new(0)?);
-    expect_eq(rt, over, Err(CardRefused::Over), leader);
-    Some(())
+    Some(leader)
 }
 
+/// Plays the deal from that contract to its end, and then tries one more card.
+fn expect_played(rt: &impl Abort, deal: &Deal, contract: Contract, state: &mut u32) {
+    let mut play = Play::new(deal, contract);
+    let last = play_all(rt, deal, &mut play, state);
+    let last = last.expect(rt, "a card to play");
+    expect_eq(rt, play.is_over(), true, play.cards());
+    let over = play.try_card(last, Card::default());
+    expect_eq(rt, over, Err(CardRefused::Over), last);
+}
+
+static DEALS: [&[u8]; 3] = [CARDS_IN_A_ROW, DIAMOND_VOID, LONG_SPADES];
+
 #[test]
-fn random_plays_follow_the_rules(rt: HostRuntime) -> Result<(), Fail> {
+fn random_plays_follow_the_rules(rt: HostRuntime) {
     let mut state = 1;
-    for text in [CARDS_IN_A_ROW, DIAMOND_VOID, LONG_SPADES] {
-        let deal = deal_of(text)?;
-        for denomination in Denomination::ALL {
-            let declarer = Seat::North.clockwise(usize::from(denomination.number()));
-            let contract = contract_of(1, denomination, declarer)?;
-            play_all(&rt, &deal, contract, &mut state).ok_or("a card to play")?;
+    for text in &DEALS {
+        let deal = deal_of(&rt, text);
+        for index in 0..5 {
+            let declarer = Seat::North.clockwise(index);
+            let contract = contract_of(&rt, 1, Denomination::ALL[index], declarer);
+            expect_played(&rt, &deal, contract, &mut state);
         }
     }
-    Ok(())
 }

@@ -1,4 +1,6 @@
 //! The scale of IMPs, a board of four scores, and percentages.
+ghost use Rattle.std.specs.Prelude.{◌<◌};
+
 use crate::tests::expect_eq;
 use bridge_score::{cross_imps, imps, matchpoints, percent_hundredths};
 
@@ -18,29 +20,29 @@ fn imps_begin_where_the_scale_says(rt: HostRuntime) {
     expect_eq(&rt, imps(u32::MAX), 24, "the most");
 }
 
+/// What one of four scores earns by matchpoints, and by IMPs.
+fn earned(i: usize) -> (u16, i32)
+    requires { i < 4 }
+{
+    let scores = [450, 420, 420, -50];
+    (matchpoints(&scores, i), cross_imps(&scores, i))
+}
+
 #[test]
 fn a_board_of_four_scores(rt: HostRuntime) {
-    let scores = [450, 420, 420, -50];
-    let due = [(60, 13), (30, 9), (30, 9), (0, -31)];
-    for (i, (matchpoints_due, imps_due)) in due.into_iter().enumerate() {
-        if i < scores.len() {
-            expect_eq(&rt, matchpoints(&scores, i), matchpoints_due, i);
-            expect_eq(&rt, cross_imps(&scores, i), imps_due, i);
-        }
-    }
+    expect_eq(&rt, earned(0), (60, 13), 450);
+    expect_eq(&rt, earned(1), (30, 9), 420);
+    expect_eq(&rt, earned(2), (30, 9), 420);
+    expect_eq(&rt, earned(3), (0, -31), -50);
 }
 
 #[test]
 fn percentages_are_rounded(rt: HostRuntime) {
-    for (earned, available, due) in [
-        (0, 0, None),
-        (2, 6, Some(3333)),
-        (4, 6, Some(6667)),
-        (1, 20_000, Some(1)),
-        (1, 20_001, Some(0)),
-        (9_999_999, 10_000_000, Some(10_000)),
-    ] {
-        let found = percent_hundredths(earned, available);
-        expect_eq(&rt, found, due, (earned, available));
-    }
+    expect_eq(&rt, percent_hundredths(0, 0), None, "of nothing");
+    expect_eq(&rt, percent_hundredths(2, 6), Some(3333), "a third");
+    expect_eq(&rt, percent_hundredths(4, 6), Some(6667), "two thirds");
+    expect_eq(&rt, percent_hundredths(1, 20_000), Some(1), "half of one");
+    expect_eq(&rt, percent_hundredths(1, 20_001), Some(0), "less");
+    let most = percent_hundredths(9_999_999, 10_000_000);
+    expect_eq(&rt, most, Some(10_000), "nearly all");
 }

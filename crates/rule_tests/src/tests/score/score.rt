@@ -6,7 +6,7 @@ use Doubling::{Doubled, Redoubled, Undoubled};
 use bridge_auction::{Bid, Contract, Denomination, Doubling, Level};
 use bridge_cards::Seat;
 use bridge_score::score;
-use std::test::Fail;
+use std::process::Abort;
 
 /// A contract's level, denomination and doubling, whether its side is vulnerable, its tricks, and its score.
 static PRINTED: [(u8, Denomination, Doubling, bool, u8, i32); 8] = [
@@ -21,34 +21,39 @@ static PRINTED: [(u8, Denomination, Doubling, bool, u8, i32); 8] = [
 ];
 
 /// The contract of that level by North.
-fn contract(level: u8, denomination: Denomination, doubling: Doubling) -> Result<Contract, Fail> {
-    let level = Level::new(level).ok_or("a level")?;
-    Ok(Contract {
+fn contract(
+    rt: &impl Abort,
+    level: u8,
+    denomination: Denomination,
+    doubling: Doubling,
+) -> Contract {
+    Contract {
         bid: Bid {
-            level,
+            level: Level::new(level).expect(rt, "a level"),
             denomination,
         },
         doubling,
         declarer: Seat::North,
-    })
+    }
 }
 
 #[test]
-fn scores_of_the_printed_table(rt: HostRuntime) -> Result<(), Fail> {
+fn scores_of_the_printed_table(rt: HostRuntime) {
     for (level, denomination, doubling, vulnerable, tricks, points) in PRINTED.as_slice() {
-        let contract = contract(*level, *denomination, *doubling)?;
+        let contract = contract(&rt, *level, *denomination, *doubling);
         let found = score(&contract, *vulnerable, *tricks);
         expect_eq(&rt, found, *points, (contract, *tricks));
     }
-    Ok(())
 }
 
+static DOUBLINGS: [Doubling; 3] = [Undoubled, Doubled, Redoubled];
+
 #[test]
-fn every_score_is_the_plain_one(rt: HostRuntime) -> Result<(), Fail> {
+fn every_score_is_the_plain_one(rt: HostRuntime) {
     for bid in 0..35u8 {
         let denomination = Denomination::ALL[usize::from(bid % 5)];
-        for doubling in [Doubling::Undoubled, Doubling::Doubled, Doubling::Redoubled] {
-            let contract = contract(bid / 5 + 1, denomination, doubling)?;
+        for doubling in &DOUBLINGS {
+            let contract = contract(&rt, bid / 5 + 1, denomination, *doubling);
             for result in 0..28 {
                 let (vulnerable, tricks) = (result < 14, result % 14);
                 let found = score(&contract, vulnerable, tricks);
@@ -57,5 +62,4 @@ fn every_score_is_the_plain_one(rt: HostRuntime) -> Result<(), Fail> {
             }
         }
     }
-    Ok(())
 }
