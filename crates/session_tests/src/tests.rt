@@ -12,6 +12,7 @@ mod random_actions;
 mod random_sessions;
 mod restored;
 mod results;
+mod rows;
 mod script;
 mod stack;
 mod story;

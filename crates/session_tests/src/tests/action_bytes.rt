@@ -1,10 +1,9 @@
 //! The bytes of actions, worked by hand.
 use super::{expect_eq, script};
 use arrayvec::ArrayVec;
-use bridge_session::{read_action, write_action};
+use bridge_session::{Action, read_action, write_action};
 use session_store::DiskFormat;
 use std::process::Abort;
-use std::test::Fail;
 
 /// The action of a line, and its bytes: the same in both formats, but for the averages, which the first one has not.
 static ROWS: [(&str, &[u8]); 12] = [
@@ -28,23 +27,27 @@ static ROWS: [(&str, &[u8]); 12] = [
     ),
 ];
 
+/// Fails where an action is written as other bytes, or they are read as another one: in the first format as `former`.
+fn expect_bytes(rt: &impl Abort, action: &Action, due: &[u8], former: Option<Action>) {
+    let mut bytes = ArrayVec::new();
+    write_action(action, &mut bytes);
+    expect_eq(rt, bytes.as_slice(), due, action);
+    let read = read_action(DiskFormat::Two, due);
+    expect_eq(rt, read, Some(*action), action);
+    expect_eq(rt, read_action(DiskFormat::One, due), former, action);
+}
+
 #[test]
-fn each_action_has_its_bytes(rt: HostRuntime) -> Result<(), Fail> {
+fn each_action_has_its_bytes(rt: HostRuntime) {
     for (line, due) in &ROWS {
-        let (line, due) = (*line, *due);
         let action = script::action(&rt, line);
-        let mut bytes = ArrayVec::new();
-        write_action(&action, &mut bytes);
-        expect_eq(&rt, bytes.as_slice(), due, line);
         let former = if line.starts_with("ADJUST") {
             None
         } else {
             Some(action)
         };
-        expect_eq(&rt, read_action(DiskFormat::Two, due), Some(action), line);
-        expect_eq(&rt, read_action(DiskFormat::One, due), former, line);
+        expect_bytes(&rt, &action, due, former);
     }
-    Ok(())
 }
 
 /// The corrections of lines, and their bytes in the second format; the first one has none.
@@ -59,15 +62,8 @@ static CORRECTIONS: [(&str, &[u8]); 4] = [
 ];
 
 #[test]
-fn each_correction_has_its_bytes(rt: HostRuntime) -> Result<(), Fail> {
+fn each_correction_has_its_bytes(rt: HostRuntime) {
     for (line, due) in &CORRECTIONS {
-        let (line, due) = (*line, *due);
-        let action = script::correction(&rt, line);
-        let mut bytes = ArrayVec::new();
-        write_action(&action, &mut bytes);
-        expect_eq(&rt, bytes.as_slice(), due, line);
-        expect_eq(&rt, read_action(DiskFormat::Two, due), Some(action), line);
-        expect_eq(&rt, read_action(DiskFormat::One, due), None, line);
+        expect_bytes(&rt, &script::correction(&rt, line), due, None);
     }
-    Ok(())
 }

@@ -1,11 +1,12 @@
 //! Corrections as the last records of an epoch and the first thing of the next, with a power cut after each.
-use super::disk::{ClubStore, confirm, cut, formatted, opened_for, picks, submit};
+ghost use Rattle.std.specs.Prelude.{◌<◌};
+
+use super::disk::{ClubStore, confirm, cut, opened_for, picks, started, submit};
 use super::expect_eq;
-use super::script::{action, after, correction, written};
+use super::script::{action, after, are_same, correction};
 use bridge_session::Session;
-use std::alloc::{AllocError, Global};
+use std::alloc::Global;
 use std::process::Abort;
-use std::test::Fail;
 
 const A_DEAL: &str =
     "DEAL 100 1 N:AKQJT98765432... .AKQJT98765432.. ..AKQJT98765432. ...AKQJT98765432";
@@ -27,8 +28,8 @@ fn take(rt: &impl Abort, store: &mut ClubStore, session: &mut Session, line: &st
 }
 
 /// A store whose epoch has 1,022 records: a deal, a call, and 1,020 rulings that are taken back where there is none.
-fn nearly_full(rt: &impl Abort, alloc: Global) -> Result<ClubStore, AllocError> {
-    let mut store = opened_for(rt, alloc, formatted(rt, alloc)?, u64::MAX);
+fn nearly_full(rt: &impl Abort, alloc: Global) -> ClubStore {
+    let mut store = started(rt, alloc);
     submit(rt, &mut store, A_DEAL);
     submit(rt, &mut store, A_CALL);
     let restore = action(rt, "RESTORE 100 1 2 1");
@@ -39,7 +40,7 @@ fn nearly_full(rt: &impl Abort, alloc: Global) -> Result<ClubStore, AllocError> 
         }
     }
     confirm(rt, &mut store);
-    Ok(store)
+    store
 }
 
 /// Fails where the store has another session.
@@ -49,49 +50,44 @@ fn expect_session(
     store: &ClubStore,
     session: &Session,
     row: usize,
-) -> Result<(), AllocError> {
-    let due = written(alloc, session)?;
-    let found = written(alloc, store.state())?;
-    expect_eq(rt, found.as_slice() == due.as_slice(), true, row);
-    Ok(())
+) {
+    expect_eq(rt, are_same(alloc, store.state(), session), Ok(true), row);
+}
+
+/// Takes the corrections up to the last that is told, and finds them after a power cut.
+fn expect_taken(rt: &impl Abort, alloc: Global, last: usize, picks: &[u32])
+    requires { last < 3 }
+{
+    let mut session = after(rt, alloc, &[A_DEAL, A_CALL]);
+    let mut store = nearly_full(rt, alloc);
+    for line in &CORRECTIONS[..=last] {
+        take(rt, &mut store, &mut session, line);
+    }
+    confirm(rt, &mut store);
+    expect_eq(rt, store.epoch(), if last < 2 { 2 } else { 3 }, last);
+    let store = opened_for(rt, alloc, cut(store, picks), u64::MAX);
+    expect_session(rt, alloc, &store, &session, last);
 }
 
 // The records number 1,023 and 1,024 of epoch 2, and the checkpoint of epoch 3.
 #[test]
-fn corrections_end_an_epoch(rt: HostRuntime) -> Result<(), Fail> {
+fn corrections_end_an_epoch(rt: HostRuntime) {
     for last in 0..3 {
         for picks in &picks() {
-            let mut session = after(&rt, rt.alloc(), &[A_DEAL, A_CALL])?;
-            let mut store = nearly_full(&rt, rt.alloc())?;
-            for (count, line) in CORRECTIONS.iter().enumerate() {
-                if count <= last {
-                    take(&rt, &mut store, &mut session, *line);
-                }
-            }
-            confirm(&rt, &mut store);
-            expect_eq(&rt, store.epoch(), if last < 2 { 2 } else { 3 }, last);
-            let store = opened_for(&rt, rt.alloc(), cut(store, picks), u64::MAX);
-            expect_session(&rt, rt.alloc(), &store, &session, last)?;
+            expect_taken(&rt, rt.alloc(), last, picks);
         }
     }
-    Ok(())
 }
 
 // The last of the journal's records is not confirmed, and a power cut keeps nothing of it.
 #[test]
-fn a_correction_that_is_not_confirmed_may_be_lost(rt: HostRuntime) -> Result<(), Fail> {
-    let [first, second, _] = CORRECTIONS;
-    let mut session = after(&rt, rt.alloc(), &[A_DEAL, A_CALL])?;
-    let mut store = nearly_full(&rt, rt.alloc())?;
-    take(&rt, &mut store, &mut session, first);
+fn a_correction_that_is_not_confirmed_may_be_lost(rt: HostRuntime) {
+    let mut session = after(&rt, rt.alloc(), &[A_DEAL, A_CALL]);
+    let mut store = nearly_full(&rt, rt.alloc());
+    take(&rt, &mut store, &mut session, CORRECTIONS[0]);
     confirm(&rt, &mut store);
-    expect_eq(
-        &rt,
-        store.submit(&correction(&rt, second)).is_ok(),
-        true,
-        second,
-    );
+    let second = store.submit(&correction(&rt, CORRECTIONS[1]));
+    expect_eq(&rt, second.is_ok(), true, "the second");
     let store = opened_for(&rt, rt.alloc(), cut(store, &[]), u64::MAX);
-    expect_session(&rt, rt.alloc(), &store, &session, 1)?;
-    Ok(())
+    expect_session(&rt, rt.alloc(), &store, &session, 1);
 }

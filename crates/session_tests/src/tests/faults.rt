@@ -1,13 +1,12 @@
 //! A fault and a power cut at every call of the disk while the first actions of a worked session are taken.
 use super::disk::{formatted, opened, picks, with_format};
 use super::expect_eq;
-use super::script::{action, run, session_of, written};
+use super::script::{action, are_same, run, session_of};
 use bridge_session::Session;
 use sector_disk::{Fail as FailOf, Fuse, MemoryDisk, SectorDisk};
 use session_store::{CheckpointFault, ConfirmFault, Store, StoreFault, SubmitFault, format};
-use std::alloc::{AllocError, Global};
+use std::alloc::Global;
 use std::process::Abort;
-use std::test::Fail;
 use test_texts::TWO_TABLES;
 
 /// What stands on the disk from an epoch before.
@@ -104,11 +103,11 @@ fn take<D: SectorDisk + Drop>(
 }
 
 /// The disk with the first actions, and what is due of it.
-fn prepared(rt: &impl Abort, alloc: Global) -> Result<(MemoryDisk, Tally), AllocError> {
-    let mut store = opened(rt, alloc, formatted(rt, alloc)?);
+fn prepared(rt: &impl Abort, alloc: Global) -> (MemoryDisk, Tally) {
+    let mut store = opened(rt, alloc, formatted(rt, alloc));
     let mut tally = Tally::default();
     take(rt, &mut store, &mut tally, FIRST);
-    Ok((store.into_disk(), tally))
+    (store.into_disk(), tally)
 }
 
 /// Opens the disk, of which a call may fail, and takes the actions that follow.
@@ -127,70 +126,66 @@ fn go_on(rt: &impl Abort, alloc: Global, disk: Fuse<MemoryDisk>, tally: &mut Tal
     }
 }
 
-/// The session after so many of the actions.
-fn after_first(rt: &impl Abort, alloc: Global, count: usize) -> Result<Session, AllocError> {
-    let mut session = session_of(rt, alloc, TWO_TABLES)?;
-    let mut taken = 0;
-    for line in FIRST.split('/').chain(THEN.split('/')) {
-        let is_action = line != "CONFIRM" && line != "CHECKPOINT";
-        if is_action && taken < count {
-            run(rt, &mut session, &[line]);
-            taken += 1;
+/// Takes the first actions of a text, so many at most. The result is how many are left to take.
+fn take_first(rt: &impl Abort, session: &mut Session, text: &str, most: usize) -> usize {
+    let mut left = most;
+    for line in text.split('/') {
+        if left > 0 && line != "CONFIRM" && line != "CHECKPOINT" {
+            run(rt, session, &[line]);
+            left -= 1;
         }
     }
-    Ok(session)
+    left
+}
+
+/// The session after so many of the actions.
+fn after_first(rt: &impl Abort, alloc: Global, count: usize) -> Session {
+    let mut session = session_of(rt, alloc, TWO_TABLES);
+    let left = take_first(rt, &mut session, FIRST, count);
+    take_first(rt, &mut session, THEN, left);
+    session
 }
 
 /// Fails where the session has not the confirmed actions and, of the others accepted, some of the first.
-fn expect_prefix(
-    rt: &impl Abort,
-    alloc: Global,
-    session: &Session,
-    tally: Tally,
-) -> Result<(), AllocError> {
-    let found = written(alloc, session)?;
+fn expect_prefix(rt: &impl Abort, alloc: Global, session: &Session, tally: Tally) {
     let mut is_due = false;
     for count in tally.confirmed..=tally.accepted {
-        let due = written(alloc, &after_first(rt, alloc, count)?)?;
-        is_due = is_due || due.as_slice() == found.as_slice();
+        let due = after_first(rt, alloc, count);
+        is_due = is_due || are_same(alloc, session, &due) == Ok(true);
     }
     expect_eq(rt, is_due, true, (tally.confirmed, tally.accepted));
-    Ok(())
+}
+
+/// Goes on until a call fails, and opens what a power cut then leaves.
+fn fail_call(rt: &impl Abort, alloc: Global, how: (FailOf, bool), passes: u64, picks: &[u32]) {
+    let (disk, mut tally) = prepared(rt, alloc);
+    let fuse = Fuse::new(disk, passes, how.0, how.1);
+    let mut disk = go_on(rt, alloc, fuse, &mut tally);
+    expect_eq(rt, tally.failed, passes < CALLS, passes);
+    disk.crash(picks);
+    let store = opened(rt, alloc, disk);
+    expect_prefix(rt, alloc, store.state(), tally);
 }
 
 /// Whatever call fails, and whatever a power cut then leaves.
-fn fail_every_call(
-    rt: &impl Abort,
-    alloc: Global,
-    fail: FailOf,
-    effect: bool,
-) -> Result<(), AllocError> {
+fn fail_every_call(rt: &impl Abort, alloc: Global, how: (FailOf, bool)) {
     for passes in 0..=CALLS {
         for picks in &picks() {
-            let (disk, mut tally) = prepared(rt, alloc)?;
-            let fuse = Fuse::new(disk, passes, fail, effect);
-            let mut disk = go_on(rt, alloc, fuse, &mut tally);
-            expect_eq(rt, tally.failed, passes < CALLS, passes);
-            disk.crash(picks);
-            let store = opened(rt, alloc, disk);
-            expect_prefix(rt, alloc, store.state(), tally)?;
+            fail_call(rt, alloc, how, passes, picks);
         }
     }
-    Ok(())
 }
 
 #[test]
-fn one_fault_at_every_call(rt: HostRuntime) -> Result<(), Fail> {
-    fail_every_call(&rt, rt.alloc(), FailOf::Once, false)?;
-    fail_every_call(&rt, rt.alloc(), FailOf::Once, true)?;
-    Ok(())
+fn one_fault_at_every_call(rt: HostRuntime) {
+    fail_every_call(&rt, rt.alloc(), (FailOf::Once, false));
+    fail_every_call(&rt, rt.alloc(), (FailOf::Once, true));
 }
 
 #[test]
-fn faults_from_every_call_on(rt: HostRuntime) -> Result<(), Fail> {
-    fail_every_call(&rt, rt.alloc(), FailOf::Always, false)?;
-    fail_every_call(&rt, rt.alloc(), FailOf::Always, true)?;
-    Ok(())
+fn faults_from_every_call_on(rt: HostRuntime) {
+    fail_every_call(&rt, rt.alloc(), (FailOf::Always, false));
+    fail_every_call(&rt, rt.alloc(), (FailOf::Always, true));
 }
 
 static FUSES: [(FailOf, bool); 4] = [
@@ -219,35 +214,36 @@ fn half_formatted(
 }
 
 /// Formats a disk again after each 17th of these calls and each of those that write the snapshot.
-fn fail_formatting(
-    rt: &impl Abort,
-    alloc: Global,
-    from: usize,
-    to: usize,
-) -> Result<(), AllocError> {
-    let session = session_of(rt, alloc, TWO_TABLES)?;
-    let due = written(alloc, &session)?;
-    let mut disk = prepared(rt, alloc)?.0;
+fn fail_formatting(rt: &impl Abort, alloc: Global, from: usize, to: usize) {
+    let session = session_of(rt, alloc, TWO_TABLES);
+    let (mut disk, _) = prepared(rt, alloc);
     for calls in from..to {
         disk = half_formatted(rt, disk, &session, calls);
         if calls % 17 == 0 || calls > 2047 {
-            let store = opened(rt, alloc, with_format(rt, disk, &session));
-            let found = written(alloc, store.state())?;
-            expect_eq(rt, found.as_slice() == due.as_slice(), true, calls);
-            disk = store.into_disk();
+            disk = formatted_again(rt, alloc, disk, &session);
         }
     }
-    Ok(())
+}
+
+/// The disk formatted with the session, which is then found on it.
+fn formatted_again(
+    rt: &impl Abort,
+    alloc: Global,
+    disk: MemoryDisk,
+    session: &Session,
+) -> MemoryDisk {
+    let store = opened(rt, alloc, with_format(rt, disk, session));
+    let is_same = are_same(alloc, store.state(), session);
+    expect_eq(rt, is_same, Ok(true), "formatted again");
+    store.into_disk()
 }
 
 #[test]
-fn a_fault_at_each_of_the_first_calls_of_formatting(rt: HostRuntime) -> Result<(), Fail> {
-    fail_formatting(&rt, rt.alloc(), 0, 1400)?;
-    Ok(())
+fn a_fault_at_each_of_the_first_calls_of_formatting(rt: HostRuntime) {
+    fail_formatting(&rt, rt.alloc(), 0, 1400);
 }
 
 #[test]
-fn a_fault_at_each_of_the_last_calls_of_formatting(rt: HostRuntime) -> Result<(), Fail> {
-    fail_formatting(&rt, rt.alloc(), 1400, 2061)?;
-    Ok(())
+fn a_fault_at_each_of_the_last_calls_of_formatting(rt: HostRuntime) {
+    fail_formatting(&rt, rt.alloc(), 1400, 2061);
 }

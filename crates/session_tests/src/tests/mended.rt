@@ -1,6 +1,9 @@
 //! A second reading of what is taken back: a deal, and the latest thing done in a play.
-use super::twin::{Twin, row_of_play};
+use super::rows::{is_played, row_of_play};
+use super::story::Story;
+use super::twin::Twin;
 use bridge_cards::BoardNumber;
+use bridge_movement::Row;
 use bridge_session::{PlayId, Refused};
 
 impl Twin {
@@ -48,15 +51,27 @@ impl Twin {
         }
     }
 
+    /// The play of that index in a row that two pairs play, if it is of that board.
+    fn played(&self, row: Row, index: u8, board: BoardNumber) -> Option<Story> {
+        if !is_played(row) {
+            return None;
+        }
+        let story = self.story(row, index)?;
+        if story.board == board {
+            Some(story)
+        } else {
+            None
+        }
+    }
+
     /// Whether a call was made in a play of the board, and whether a ruling stands on one.
     fn begun(&self, board: BoardNumber) -> (bool, bool) {
         let mut begun = (false, false);
         for row in self.config.fields().movement.rows() {
             for index in 1..4 {
-                if let (true, Some(story)) = (row.ns != 0 && row.ew != 0, self.story(*row, index)) {
-                    let on = story.board == board;
-                    begun.0 = begun.0 || on && !story.auction.calls().is_empty();
-                    begun.1 = begun.1 || on && story.is_ruled();
+                if let Some(story) = self.played(*row, index, board) {
+                    begun.0 = begun.0 || !story.auction.calls().is_empty();
+                    begun.1 = begun.1 || story.is_ruled();
                 }
             }
         }

@@ -1,12 +1,14 @@
 //! A disk of the first format, and what opening it makes of it.
-use super::disk::{confirm, cut, expect_sector, expect_state, opened, opened_for, picks, submit};
+use super::disk::{
+    blank, confirm, cut, expect_refused, expect_sector, expect_state, opened, opened_for, picks,
+    put, sector, submit,
+};
 use super::expect_eq;
 use bridge_session::Session;
 use sector_disk::{Fail as FailOf, Fuse, MemoryDisk, SectorDisk};
 use session_store::{Store, StoreFault};
 use std::alloc::Global;
 use std::process::Abort;
-use std::test::Fail;
 
 /// The actions that are on the disk. The last one's record is the only one of its epoch.
 const TAKEN: &str =
@@ -97,21 +99,24 @@ const OPENING_CALLS: u64 = 26;
 const CALLS_BEFORE_HEADER: u64 = 24;
 
 /// The disk of those sectors, synced.
-fn old_disk(alloc: Global) -> Result<MemoryDisk, Fail> {
-    let mut disk = MemoryDisk::new(alloc, 2048)?;
+fn old_disk(rt: &impl Abort, alloc: Global) -> MemoryDisk {
+    let mut disk = blank(rt, alloc, 2048);
     for (at, written) in &SECTORS {
-        let mut bytes = [0; 512];
-        for (index, byte) in bytes.iter_mut().enumerate() {
-            if let Some(value) = written.get(index) {
-                *byte = *value;
-            }
-        }
-        if *at < disk.count() {
-            disk.write(*at, &bytes)?;
+        put(rt, &mut disk, *at, &padded(written));
+    }
+    expect_eq(rt, disk.sync(), Ok(()), "the disk");
+    disk
+}
+
+/// A sector of these bytes and zeros behind them.
+fn padded(written: &[u8]) -> [u8; 512] {
+    let mut bytes = [0; 512];
+    for (index, byte) in bytes.iter_mut().enumerate() {
+        if let Some(value) = written.get(index) {
+            *byte = *value;
         }
     }
-    disk.sync()?;
-    Ok(disk)
+    bytes
 }
 
 /// The header and the parts of the plays, once the disk was opened.
@@ -129,25 +134,19 @@ static OPENED: [(u32, &[u8]); 3] = [
 
 // Epoch 4 in the second snapshot. In parts 7 and 8, of the plays, a ruling has three bytes.
 #[test]
-fn an_old_disk_is_opened(rt: HostRuntime) -> Result<(), Fail> {
-    let store = opened_for(&rt, rt.alloc(), old_disk(rt.alloc())?, OPENING_CALLS);
+fn an_old_disk_is_opened(rt: HostRuntime) {
+    let disk = old_disk(&rt, rt.alloc());
+    let store = opened_for(&rt, rt.alloc(), disk, OPENING_CALLS);
     expect_state(&rt, rt.alloc(), &store, &[TAKEN], 4);
     let mut disk = store.into_disk().into_inner();
     for (at, due) in &OPENED {
-        expect_sector(&rt, &mut disk, *at, due)?;
+        expect_sector(&rt, &mut disk, *at, due);
     }
-    Ok(())
 }
 
 /// The disk after an opening that fails from one call on, and a power cut.
-fn stopped(
-    rt: &impl Abort,
-    alloc: Global,
-    passes: u64,
-    effect: bool,
-    picks: &[u32],
-) -> Result<MemoryDisk, Fail> {
-    let fuse = Fuse::new(old_disk(alloc)?, passes, FailOf::Always, effect);
+fn stopped(rt: &impl Abort, alloc: Global, passes: u64, effect: bool, picks: &[u32]) -> MemoryDisk {
+    let fuse = Fuse::new(old_disk(rt, alloc), passes, FailOf::Always, effect);
     let (left, fault) = match Store::<Fuse<MemoryDisk>, Session>::open(alloc, fuse) {
         Ok(store) => (store.into_disk(), None),
         Err((left, fault)) => (left, Some(fault)),
@@ -155,7 +154,7 @@ fn stopped(
     expect_eq(rt, fault, Some(StoreFault::Disk), passes);
     let mut disk = left.into_inner();
     disk.crash(picks);
-    Ok(disk)
+    disk
 }
 
 /// Part 8 in the snapshot of epoch 5, and in that of epoch 6.
@@ -172,75 +171,68 @@ static PARTS: [(u32, &[u8]); 2] = [
 
 /// Opens twice what a stopped opening leaves, and fails where it is another session, or not of the second format then. The
 /// header of epoch 4 may be there once it was written.
-fn open_twice(rt: &impl Abort, alloc: Global, passes: u64, effect: bool) -> Result<(), Fail> {
-    for picks in &picks() {
-        let store = opened(rt, alloc, stopped(rt, alloc, passes, effect, picks)?);
-        let epoch = store.epoch();
-        let is_due = epoch == 4 || (epoch == 5 && passes >= CALLS_BEFORE_HEADER);
-        expect_eq(rt, is_due, true, passes);
-        expect_state(rt, alloc, &store, &[TAKEN], epoch);
-        let store = opened(rt, alloc, store.into_disk());
-        expect_state(rt, alloc, &store, &[TAKEN], epoch.saturating_add(1));
-        let (at, due) = if epoch == 4 { PARTS[0] } else { PARTS[1] };
-        expect_sector(rt, &mut store.into_disk(), at, due)?;
-    }
-    Ok(())
+fn open_twice(rt: &impl Abort, alloc: Global, passes: u64, disk: MemoryDisk) {
+    let store = opened(rt, alloc, disk);
+    let epoch = store.epoch();
+    let is_due = epoch == 4 || (epoch == 5 && passes >= CALLS_BEFORE_HEADER);
+    expect_eq(rt, is_due, true, passes);
+    expect_state(rt, alloc, &store, &[TAKEN], epoch);
+    let store = opened(rt, alloc, store.into_disk());
+    expect_state(rt, alloc, &store, &[TAKEN], epoch.saturating_add(1));
+    let (at, due) = if epoch == 4 { PARTS[0] } else { PARTS[1] };
+    expect_sector(rt, &mut store.into_disk(), at, due);
 }
 
 #[test]
-fn an_opening_that_is_stopped(rt: HostRuntime) -> Result<(), Fail> {
+fn an_opening_that_is_stopped(rt: HostRuntime) {
+    let alloc = rt.alloc();
     for passes in 0..OPENING_CALLS {
-        open_twice(&rt, rt.alloc(), passes, false)?;
-        open_twice(&rt, rt.alloc(), passes, true)?;
+        for picks in &picks() {
+            let disk = stopped(&rt, alloc, passes, false, picks);
+            open_twice(&rt, alloc, passes, disk);
+            let disk = stopped(&rt, alloc, passes, true, picks);
+            open_twice(&rt, alloc, passes, disk);
+        }
     }
-    Ok(())
 }
 
 // The call is record 0 of its epoch, and stands where the last action of the first format stood.
 #[test]
-fn a_call_on_an_old_disk(rt: HostRuntime) -> Result<(), Fail> {
+fn a_call_on_an_old_disk(rt: HostRuntime) {
     for picks in &picks() {
-        let mut store = opened_for(&rt, rt.alloc(), old_disk(rt.alloc())?, u64::MAX);
+        let disk = old_disk(&rt, rt.alloc());
+        let mut store = opened_for(&rt, rt.alloc(), disk, u64::MAX);
         submit(&rt, &mut store, "CALL 12 1 2 PASS");
         confirm(&rt, &mut store);
         let mut disk = cut(store, picks);
         let record = b"BD2R\0\0\0\0\0\0\0\x04\0\0\0\0\0\x09\x02\0\0\0\x0c\x01\0\x02";
-        expect_sector(&rt, &mut disk, 1024, record)?;
+        expect_sector(&rt, &mut disk, 1024, record);
         let store = opened_for(&rt, rt.alloc(), disk, u64::MAX);
         expect_state(&rt, rt.alloc(), &store, &[TAKEN, "CALL 12 1 2 PASS"], 5);
     }
-    Ok(())
 }
 
 // A ruling of the second format alone.
 #[test]
-fn averages_on_an_old_disk(rt: HostRuntime) -> Result<(), Fail> {
+fn averages_on_an_old_disk(rt: HostRuntime) {
     let made = "ADJUST 100 1 2 1 60 40";
     for picks in &picks() {
-        let mut store = opened_for(&rt, rt.alloc(), old_disk(rt.alloc())?, u64::MAX);
+        let disk = old_disk(&rt, rt.alloc());
+        let mut store = opened_for(&rt, rt.alloc(), disk, u64::MAX);
         submit(&rt, &mut store, made);
         confirm(&rt, &mut store);
         let store = opened_for(&rt, rt.alloc(), cut(store, picks), u64::MAX);
         expect_state(&rt, rt.alloc(), &store, &[TAKEN, made], 5);
         let due = b"BD2P\0\0\0\0\0\0\0\x05\0\0\0\x08\0\x08\0\0\0\0\0\x03\x3c\x28";
-        expect_sector(&rt, &mut store.into_disk().into_inner(), 9, due)?;
+        expect_sector(&rt, &mut store.into_disk().into_inner(), 9, due);
     }
-    Ok(())
 }
 
 #[test]
-fn a_part_with_the_mark_of_the_second_format(rt: HostRuntime) -> Result<(), Fail> {
-    let mut disk = old_disk(rt.alloc())?;
-    let mut bytes = [0; 512];
-    if 9 < disk.count() {
-        disk.read(9, &mut bytes)?;
-        bytes[2] = b'2';
-        disk.write(9, &bytes)?;
-    }
-    let fault = match Store::<MemoryDisk, Session>::open(rt.alloc(), disk) {
-        Ok(_) => None,
-        Err((_, fault)) => Some(fault),
-    };
-    expect_eq(&rt, fault, Some(StoreFault::Damaged(9)), "opened");
-    Ok(())
+fn a_part_with_the_mark_of_the_second_format(rt: HostRuntime) {
+    let mut disk = old_disk(&rt, rt.alloc());
+    let mut bytes = sector(&rt, &mut disk, 9);
+    bytes[2] = b'2';
+    put(&rt, &mut disk, 9, &bytes);
+    expect_refused(&rt, rt.alloc(), disk, StoreFault::Damaged(9));
 }

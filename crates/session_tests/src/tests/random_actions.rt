@@ -1,4 +1,5 @@
 //! Actions that a sequence of numbers picks: most are what the rules ask for at a table, and some are anything.
+use super::rows::row_at;
 use super::twin::Twin;
 use bridge_auction::{Bid, Call, Contract, Denomination, Doubling, Level};
 use bridge_cards::{BoardNumber, Card, CardSet, Seat, deal_board};
@@ -66,14 +67,11 @@ fn play_in(state: &mut u32, round: u8) -> Option<PlayId> {
 /// Four hands: a deal, or one in which North's cards are East's too.
 fn any_hands(state: &mut u32, board: BoardNumber) -> [CardSet; 4] {
     let deal = deal_board(&[small(state, 200); 32], board);
-    let [north, east, south, west] = [Seat::North, Seat::East, Seat::South, Seat::West].map(
-        |seat| deal.hand(seat),
-    );
+    let mut hands = deal.hands();
     if next(state, 8) == 0 {
-        [north, north, south, west]
-    } else {
-        [north, east, south, west]
+        hands[1] = hands[0];
     }
+    hands
 }
 
 fn any_average(state: &mut u32) -> Average {
@@ -96,6 +94,14 @@ fn any_contract(state: &mut u32) -> Option<Contract> {
     })
 }
 
+fn any_board(state: &mut u32) -> Option<BoardNumber> {
+    BoardNumber::new(small(state, 8).saturating_add(1))
+}
+
+fn any_tricks(state: &mut u32) -> Option<TrickCount> {
+    TrickCount::new(small(state, 14))
+}
+
 /// What the director may do.
 fn ruling(state: &mut u32, round: u8) -> Option<Action> {
     let key = if next(state, 10) == 0 {
@@ -108,39 +114,43 @@ fn ruling(state: &mut u32, round: u8) -> Option<Action> {
             key,
             play: play_in(state, round)?,
         }),
-        6 => Some(Action::Assign {
-            key,
-            play: any_play(state)?,
-            contract: any_contract(state)?,
-            tricks: TrickCount::new(small(state, 14))?,
-        }),
         5 => Some(Action::Undeal {
             key,
-            board: BoardNumber::new(small(state, 8).saturating_add(1))?,
+            board: any_board(state)?,
+        }),
+        3 => Some(Action::NextRound {
+            key,
+            round: RoundNumber::new(round.saturating_add(small(state, 8) / 7))?,
+        }),
+        kind => {
+            let play = any_play(state)?;
+            ruling_on(state, kind, key, play)
+        }
+    }
+}
+
+/// What the director may rule on a play.
+fn ruling_on(state: &mut u32, kind: u32, key: Key, play: PlayId) -> Option<Action> {
+    match kind {
+        6 => Some(Action::Assign {
+            key,
+            play,
+            contract: any_contract(state)?,
+            tricks: any_tricks(state)?,
         }),
         4 => Some(Action::Adjust {
             key,
-            play: any_play(state)?,
+            play,
             ns: any_average(state),
             ew: any_average(state),
         }),
         0 => Some(Action::Tricks {
             key,
-            play: any_play(state)?,
-            tricks: TrickCount::new(small(state, 14))?,
+            play,
+            tricks: any_tricks(state)?,
         }),
-        1 => Some(Action::Void {
-            key,
-            play: any_play(state)?,
-        }),
-        2 => Some(Action::Restore {
-            key,
-            play: any_play(state)?,
-        }),
-        _ => Some(Action::NextRound {
-            key,
-            round: RoundNumber::new(round.saturating_add(small(state, 8) / 7))?,
-        }),
+        1 => Some(Action::Void { key, play }),
+        _ => Some(Action::Restore { key, play }),
     }
 }
 
@@ -153,47 +163,46 @@ fn deed(
     made: [u16; 3],
     card: Card,
 ) -> Option<Action> {
-    let [calls, cards, claims] = made.map(|count| MadeCount::new(count));
+    let [calls, cards, claims] = made;
+    let at = MadeCount::new(match kind {
+        0 => calls,
+        1 => cards,
+        _ => claims,
+    })?;
     match kind {
         0 => Some(Action::Call {
             key,
             board,
-            at: calls?,
+            at,
             call: any_call(state)?,
         }),
         1 => Some(Action::Card {
             key,
             board,
-            at: cards?,
+            at,
             card,
         }),
         2 => Some(Action::Claim {
             key,
             board,
-            at: claims?,
-            tricks: TrickCount::new(small(state, 14))?,
+            at,
+            tricks: any_tricks(state)?,
         }),
-        3 => Some(Action::Agree {
-            key,
-            board,
-            at: claims?,
-        }),
-        _ => Some(Action::Refuse {
-            key,
-            board,
-            at: claims?,
-        }),
+        3 => Some(Action::Agree { key, board, at }),
+        _ => Some(Action::Refuse { key, board, at }),
     }
 }
 
 /// An action of a player that may well be refused.
 fn any_deed(state: &mut u32) -> Option<Action> {
     let key = any_key(state);
-    let board = BoardNumber::new(small(state, 8).saturating_add(1))?;
+    let board = any_board(state)?;
     let kind = next(state, 5);
-    let made = [small(state, 6), small(state, 6), small(state, 3)].map(|count| u16::from(count));
+    let calls = u16::from(small(state, 6));
+    let cards = u16::from(small(state, 6));
+    let claims = u16::from(small(state, 3));
     let card = Card::new(small(state, 52))?;
-    deed(state, key, board, kind, made, card)
+    deed(state, key, board, kind, [calls, cards, claims], card)
 }
 
 /// The key of the player in a seat of a row.
@@ -218,10 +227,7 @@ fn pick(state: &mut u32, cards: CardSet) -> Option<Card> {
 
 /// An action at a table that the rules ask for there, most of the time.
 fn good_deed(state: &mut u32, twin: &Twin, table: u8) -> Option<Action> {
-    let rows = twin.config.fields().movement.rows();
-    let round = twin.round();
-    let row = rows.iter().copied().find(|row| usize::from(row.round) == round
-        && row.table == table)?;
+    let row = row_at(&twin.config, twin.round(), table)?;
     let story = twin.current(row)?;
     if story.deal.is_none() {
         return Some(Action::Deal {

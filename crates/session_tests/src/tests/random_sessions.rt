@@ -1,7 +1,9 @@
 //! Random sessions of three tables, good and bad actions of all tables mixed, each answered as the twin answers.
 use super::expect_eq;
 use super::random_actions::{any_action, any_key};
+use super::story::Story;
 use super::twin::Twin;
+use bridge_cards::{CardSet, Seat};
 use bridge_config::{Key, read_config};
 use bridge_session::{BoardIndex, PlayId, Refused, RoundNumber, Session, TableNumber};
 use std::alloc::Global;
@@ -26,29 +28,43 @@ PAIR 6 Kim 61 Lea 62
 
 /// What a player sees is what was done in the current play of the table.
 fn expect_view(rt: &impl Abort, session: &Session, twin: &Twin, key: Key) {
-    match (session.see(key), twin.sight(key)) {
-        (Ok(view), Ok((seat, story))) => {
-            let (cards, claims, hand) = match &story.play {
-                Some(play) => (
-                    play.cards().len(),
-                    play.claims(),
-                    Some(play.remaining(seat)),
-                ),
-                None => (0, 0, story.deal.map(|deal| deal.hand(seat))),
-            };
+    match twin.sight(key) {
+        Ok((seat, story)) => expect_seen(rt, session, key, seat, &story),
+        Err(due) => expect_eq(rt, session.see(key).err(), Some(due), key),
+    }
+}
+
+/// The cards and claims made in a play, and the hand of a seat.
+fn made_of(story: &Story, seat: Seat) -> (usize, u8, Option<CardSet>) {
+    match (&story.play, &story.deal) {
+        (Some(play), _) => (
+            play.cards().len(),
+            play.claims(),
+            Some(play.remaining(seat)),
+        ),
+        (None, Some(deal)) => (0, 0, Some(deal.hand(seat))),
+        (None, None) => (0, 0, None),
+    }
+}
+
+/// What the player in that seat sees of the play.
+fn expect_seen(rt: &impl Abort, session: &Session, key: Key, seat: Seat, story: &Story) {
+    match session.see(key) {
+        Ok(view) => {
+            let made = (
+                usize::from(view.cards_made),
+                view.claims_made,
+                Some(view.hand),
+            );
             expect_eq(rt, view.board, story.board, key);
             expect_eq(rt, view.seat, seat, key);
             expect_eq(rt, view.calls, story.auction.calls(), key);
-            expect_eq(rt, usize::from(view.cards_made), cards, key);
-            expect_eq(rt, view.claims_made, claims, key);
-            expect_eq(rt, Some(view.hand), hand, key);
+            expect_eq(rt, made, made_of(story, seat), key);
         }
-        (Err(found), Ok((_, story))) => {
+        Err(found) => {
             expect_eq(rt, found, Refused::NotDealt, key);
             expect_eq(rt, story.deal.is_none(), true, key);
         }
-        (Err(found), Err(due)) => expect_eq(rt, found, due, key),
-        (Ok(_), Err(due)) => expect_eq(rt, None, Some(due), key),
     }
 }
 

@@ -19,9 +19,10 @@ pub const A_CLAIM: &str = "CLAIM 11 1 0 13/AGREE 31 1 1/AGREE 32 1 1";
 pub const A_PASS: &str = "CALL 21 1 0 PASS/CALL 41 1 1 PASS/CALL 22 1 2 PASS/CALL 42 1 3 PASS";
 
 /// The opening session of a configuration's text.
-pub fn session_of(rt: &impl Abort, alloc: Global, text: &str) -> Result<Session, AllocError> {
+pub fn session_of(rt: &impl Abort, alloc: Global, text: &str) -> Session {
     let config = read_config(text.as_bytes()).ok();
-    Session::new(alloc, config.expect(rt, "a configuration"))
+    let session = Session::new(alloc, config.expect(rt, "a configuration"));
+    session.ok().expect(rt, "a session")
 }
 
 /// The action that a line of the protocol states.
@@ -52,10 +53,16 @@ pub fn run(rt: &impl Abort, session: &mut Session, texts: &[&str]) {
 }
 
 /// The session of the club after those actions.
-pub fn after(rt: &impl Abort, alloc: Global, texts: &[&str]) -> Result<Session, AllocError> {
-    let mut session = session_of(rt, alloc, TWO_TABLES)?;
+pub fn after(rt: &impl Abort, alloc: Global, texts: &[&str]) -> Session {
+    let mut session = session_of(rt, alloc, TWO_TABLES);
     run(rt, &mut session, texts);
-    Ok(session)
+    session
+}
+
+/// Whether two sessions have the same parts.
+pub fn are_same(alloc: Global, one: &Session, other: &Session) -> Result<bool, AllocError> {
+    let one = written(alloc, one)?;
+    Ok(one.as_slice() == written(alloc, other)?.as_slice())
 }
 
 /// The parts of a session.

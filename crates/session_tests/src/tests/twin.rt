@@ -1,5 +1,6 @@
 //! A second reading of a session: it keeps every action that was taken, and works each answer out from all of them.
 use super::holder::{Holder, holder_of};
+use super::rows::{is_play, is_played, row_of_pair, row_of_play, seat};
 use super::story::Story;
 use bridge_cards::{BoardNumber, CardSet, Deal, Scoring, Seat};
 use bridge_config::{Config, Key};
@@ -13,42 +14,43 @@ pub struct Twin {
     pub taken: Vec<Action>,
 }
 
-/// The row of a round that two pairs play, one of them this one.
-pub fn row_of_pair(config: &Config, round: usize, pair: u8) -> Option<Row> {
-    let rows = config.fields().movement.rows();
-    rows.iter().copied().find(|row| {
-        usize::from(row.round) == round
-            && row.ns != 0
-            && row.ew != 0
-            && (row.ns == pair || row.ew == pair)
-    })
+/// Who does what at which board, where a player acts.
+fn deed_of(action: &Action) -> Option<(Key, BoardNumber)> {
+    match *action {
+        Action::Call { key, board, .. }
+        | Action::Card { key, board, .. }
+        | Action::Claim { key, board, .. }
+        | Action::Agree { key, board, .. }
+        | Action::Refuse { key, board, .. } => Some((key, board)),
+        _ => None,
+    }
 }
 
-/// The row of a round and table, if two pairs play there.
-pub fn row_of_play(config: &Config, play: PlayId) -> Option<Row> {
-    let rows = config.fields().movement.rows();
-    rows.iter().copied().find(|row| {
-        row.round == play.round.number()
-            && row.table == play.table.number()
-            && row.ns != 0
-            && row.ew != 0
-    })
+/// Who rules on which play, where the director rules.
+fn ruling_of(action: &Action) -> Option<(Key, PlayId)> {
+    match *action {
+        Action::Tricks { key, play, .. }
+        | Action::Void { key, play }
+        | Action::Adjust { key, play, .. }
+        | Action::Assign { key, play, .. }
+        | Action::Restore { key, play } => Some((key, play)),
+        _ => None,
+    }
 }
 
-/// Whether it is the play of that index in the row.
-fn is_play(play: PlayId, row: Row, index: u8) -> bool {
-    play.round.number() == row.round
-        && play.table.number() == row.table
-        && play.index.number() == index
+/// Whether it is a ruling on the play of that index in the row.
+fn is_ruling(action: &Action, row: Row, index: u8) -> bool {
+    match ruling_of(action) {
+        Some((_, play)) => is_play(play, row, index),
+        None => false,
+    }
 }
 
-/// Where a pair's player sits: the first North or East, the second South or West.
-pub fn seat(row: Row, pair: u8, first: bool) -> Seat {
-    match (row.ns == pair, first) {
-        (true, true) => Seat::North,
-        (true, false) => Seat::South,
-        (false, true) => Seat::East,
-        (false, false) => Seat::West,
+/// Whether it takes back what was done in the play of that index in the row.
+fn is_taken_back(action: &Action, row: Row, index: u8) -> bool {
+    match *action {
+        Action::Back { play, .. } => is_play(play, row, index),
+        _ => false,
     }
 }
 
@@ -85,19 +87,16 @@ impl Twin {
         let mut story = Story::new(self.board_of(row, index)?);
         let mut round = 1usize;
         for action in self.taken.as_slice() {
-            match *action {
-                Action::NextRound { .. } => round = round.saturating_add(1),
-                Action::Tricks { play, .. }
-                | Action::Void { play, .. }
-                | Action::Adjust { play, .. }
-                | Action::Assign { play, .. }
-                | Action::Restore { play, .. }
-                    if is_play(play, row, index) => story.rule(action),
-                Action::Back { play, .. } if is_play(play, row, index) => story.back(),
-                _ => {
-                    let seat = self.seat_of(action, row, round, story.board);
-                    story.tell(action, seat);
-                }
+            if let Action::NextRound { .. } = action {
+                round = round.saturating_add(1);
+            }
+            let seat = self.seat_of(action, row, round, story.board);
+            story.tell(action, seat);
+            if is_ruling(action, row, index) {
+                story.rule(action);
+            }
+            if is_taken_back(action, row, index) {
+                story.back();
             }
         }
         story.settle();
@@ -112,21 +111,14 @@ impl Twin {
         round: usize,
         wanted: BoardNumber,
     ) -> Option<Seat> {
-        if usize::from(row.round) != round {
+        let (key, board) = deed_of(action)?;
+        if usize::from(row.round) != round || board != wanted {
             return None;
         }
-        match *action {
-            Action::Call { key, board, .. }
-            | Action::Card { key, board, .. }
-            | Action::Claim { key, board, .. }
-            | Action::Agree { key, board, .. }
-            | Action::Refuse { key, board, .. }
-                if board == wanted => match holder_of(&self.config, key) {
-                Holder::Player { pair, first } if row.ns == pair || row.ew == pair => Some(seat(
-                    row, pair, first,
-                )),
-                _ => None,
-            },
+        match holder_of(&self.config, key) {
+            Holder::Player { pair, first } if row.ns == pair || row.ew == pair => Some(seat(
+                row, pair, first,
+            )),
             _ => None,
         }
     }
@@ -214,7 +206,7 @@ impl Twin {
             return Err(Refused::Stale);
         }
         for row in self.config.fields().movement.rows() {
-            if row.round == round && row.ns != 0 && row.ew != 0 && self.current(*row).is_some() {
+            if row.round == round && is_played(*row) && self.current(*row).is_some() {
                 return Err(Refused::RoundOpen);
             }
         }
@@ -244,6 +236,14 @@ impl Twin {
 
     /// The answer to an action.
     pub fn answer(&self, action: &Action) -> Result<(), Refused> {
+        if let Some((key, board)) = deed_of(action) {
+            let (seat, mut story) = self.at_table(key, board)?;
+            return story.answer(seat, action);
+        }
+        if let Some((key, play)) = ruling_of(action) {
+            self.check_director(key)?;
+            return self.ruling_answer(action, play);
+        }
         match *action {
             Action::Deal { key, board, hands } => {
                 self.check_director(key)?;
@@ -261,22 +261,7 @@ impl Twin {
                 self.check_director(key)?;
                 self.next_answer(round.number())
             }
-            Action::Tricks { key, play, .. }
-            | Action::Void { key, play }
-            | Action::Adjust { key, play, .. }
-            | Action::Assign { key, play, .. }
-            | Action::Restore { key, play } => {
-                self.check_director(key)?;
-                self.ruling_answer(action, play)
-            }
-            Action::Call { key, board, .. }
-            | Action::Card { key, board, .. }
-            | Action::Claim { key, board, .. }
-            | Action::Agree { key, board, .. }
-            | Action::Refuse { key, board, .. } => {
-                let (seat, mut story) = self.at_table(key, board)?;
-                story.answer(seat, action)
-            }
+            _ => Ok(()),
         }
     }
 }
