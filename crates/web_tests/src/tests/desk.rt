@@ -2,7 +2,6 @@
 use super::peer::pages_with;
 use super::requests::expect_end;
 use std::cell::Cell;
-use std::test::Fail;
 use table_pages::Seconds;
 use test_texts::SEVEN_TRICKS;
 
@@ -155,12 +154,12 @@ static ROWS: &[(u32, &str, &str, &str)] = &[
 
 // What stands beside the session is told to those whom it concerns, at the second of the request.
 #[test]
-fn what_stands_on_the_desk_is_told(rt: HostRuntime) -> Result<(), Fail> {
+fn what_stands_on_the_desk_is_told(rt: HostRuntime) {
     let seconds = Cell::new(0);
-    let mut pages = pages_with(rt.alloc(), SetClock { seconds: &seconds })?;
+    let clock = SetClock { seconds: &seconds };
+    let mut pages = pages_with(&rt, rt.alloc(), clock);
     for (at, path, body, due) in ROWS {
         seconds.set(*at);
-        expect_end(&rt, rt.alloc(), &mut pages, path, body, due)?;
+        expect_end(&rt, rt.alloc(), &mut pages, path, body, due);
     }
-    Ok(())
 }

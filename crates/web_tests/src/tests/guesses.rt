@@ -1,7 +1,7 @@
 //! Addresses that guess keys, and how long they wait.
 use super::expect_eq;
 use super::peer::{ClubStore, StoppedClock, answered, pages};
-use super::requests::{request, status_of};
+use super::requests::{LINES, request, status_of};
 use std::alloc::Global;
 use std::net::{IpAddr, Ipv4Addr, Ipv6Addr};
 use std::process::Abort;
@@ -17,21 +17,18 @@ fn device(number: u8) -> IpAddr {
 }
 
 /// So many milliseconds later.
-pub fn after(begun: Instant, millis: u64) -> Result<Instant, Fail> {
-    match begun.checked_add(Duration::from_millis(millis)) {
-        Some(time) => Ok(time),
-        None => Err(Fail::from("a time")),
-    }
+pub fn after(rt: &impl Abort, begun: Instant, millis: u64) -> Instant {
+    let time = begun.checked_add(Duration::from_millis(millis));
+    time.expect(rt, "a time")
 }
 
 /// Offenders with these wrong keys of one device, each a request: how many it had, and when, in milliseconds.
-fn guessed(begun: Instant, requests: &[(u64, u64)]) -> Result<Offenders, Fail> {
+fn guessed(rt: &impl Abort, begun: Instant, requests: &[(u64, u64)]) -> Offenders {
     let mut offenders = Offenders::new(begun);
-    for request in requests {
-        let (wrong, at) = *request;
-        offenders.note(device(7), wrong, after(begun, at)?);
+    for (wrong, at) in requests {
+        offenders.note(device(7), *wrong, after(rt, begun, *at));
     }
-    Ok(offenders)
+    offenders
 }
 
 /// The requests of a device, and until when it then waits, in milliseconds; 0 is an address that does not wait.
@@ -50,17 +47,24 @@ static WAITS: [Waits; 9] = [
 ];
 
 /// Fails where the device of a row waits or not at another time than it should, or another device waits.
-fn expect_waits(rt: &impl Abort, begun: Instant, row: &Waits) -> Result<(), Fail> {
+fn expect_waits(rt: &impl Abort, begun: Instant, row: &Waits) {
     let (requests, until) = *row;
-    let offenders = guessed(begun, requests)?;
-    let now = requests.last().map_or(0, |request| request.1);
-    let waits = [now, until.saturating_sub(1).max(now), until.max(now)];
-    for (at, due) in waits.iter().zip([until > 0, until > 0, false]) {
-        let time = after(begun, *at)?;
-        expect_eq(rt, offenders.waits(device(7), time), due, (requests, *at));
-        expect_eq(rt, offenders.waits(device(8), time), false, "another");
-    }
-    Ok(())
+    let offenders = guessed(rt, begun, requests);
+    let now = match requests.last() {
+        Some((_, at)) => *at,
+        None => 0,
+    };
+    expect_wait(rt, &offenders, after(rt, begun, now), until > 0, row);
+    let last = until.saturating_sub(1).max(now);
+    expect_wait(rt, &offenders, after(rt, begun, last), until > 0, row);
+    let end = after(rt, begun, until.max(now));
+    expect_wait(rt, &offenders, end, false, row);
+}
+
+/// Fails where the device waits then and should not, or the other way round, or another device waits.
+fn expect_wait(rt: &impl Abort, offenders: &Offenders, time: Instant, due: bool, row: &Waits) {
+    expect_eq(rt, offenders.waits(device(7), time), due, row);
+    expect_eq(rt, offenders.waits(device(8), time), false, row);
 }
 
 // The tenth within a minute slows, each key of a request counts, and a minute after the first of ten it is over. A slowed
@@ -69,23 +73,25 @@ fn expect_waits(rt: &impl Abort, begun: Instant, row: &Waits) -> Result<(), Fail
 fn the_tenth_wrong_key_within_a_minute_slows(rt: HostRuntime) -> Result<(), Fail> {
     let begun = Instant::now(&rt)?;
     for row in WAITS.as_slice() {
-        expect_waits(&rt, begun, row)?;
+        expect_waits(&rt, begun, row);
     }
     Ok(())
 }
+
+static REMEMBERED: [u8; 4] = [1, 2, 127, 128];
 
 // An IPv4 address in the form of IPv6 is the same address, and of 129 the one heard the longest ago is forgotten.
 #[test]
 fn addresses_are_told_apart(rt: HostRuntime) -> Result<(), Fail> {
     let begun = Instant::now(&rt)?;
-    let then = after(begun, 1)?;
+    let then = after(&rt, begun, 1);
     let mut offenders = Offenders::new(begun);
     for number in 0..=128 {
         offenders.note(device(number), 10, begun);
     }
     expect_eq(&rt, offenders.waits(device(0), then), false, "forgotten");
-    for number in [1, 2, 127, 128] {
-        expect_eq(&rt, offenders.waits(device(number), then), true, number);
+    for number in &REMEMBERED {
+        expect_eq(&rt, offenders.waits(device(*number), then), true, number);
     }
     let mapped = IpAddr::from(Ipv6Addr::new(0, 0, 0, 0, 0, 0xffff, 0xc0a8, 0x0401));
     expect_eq(&rt, offenders.waits(mapped, then), true, "mapped");
@@ -118,22 +124,19 @@ fn expect_counted<N: RandomSource + Abort>(
     alloc: Global,
     pages: &mut TablePages<ClubStore, StoppedClock>,
     row: &Counted,
-) -> Result<(), Fail> {
+) {
     let (first, body, status, due) = *row;
-    let kind = "application/x-table-lines";
-    let bytes = request(alloc, first, "127.0.0.1:4000", kind, body)?;
-    let response = answered(rt, alloc, pages, bytes.as_slice(), 4096)?;
+    let text = request(rt, alloc, first, "127.0.0.1:4000", LINES, body);
+    let response = answered(rt, alloc, pages, text.as_bytes(), 4096);
     expect_eq(rt, status_of(response.as_slice()), status.as_bytes(), first);
     expect_eq(rt, pages.offences(), due, body);
-    Ok(())
 }
 
 // Each path that answers keys counts them, and no other.
 #[test]
-fn wrong_keys_are_counted(rt: HostRuntime) -> Result<(), Fail> {
-    let mut pages = pages(rt.alloc())?;
+fn wrong_keys_are_counted(rt: HostRuntime) {
+    let mut pages = pages(&rt, rt.alloc());
     for row in COUNTED.as_slice() {
-        expect_counted(&rt, rt.alloc(), &mut pages, row)?;
+        expect_counted(&rt, rt.alloc(), &mut pages, row);
     }
-    Ok(())
 }

@@ -1,5 +1,5 @@
 //! A peer of which the bytes are known, and the pages over a session's store on a disk in memory.
-ghost use Rattle.std.specs.Prelude.{◌≡◌, true, IfOk, IfSome};
+ghost use Rattle.std.specs.Prelude.{◌≡◌, true, IfSome};
 ghost use Rattle.table_pages.specs.Answered.{is_settled};
 
 use bridge_config::read_config;
@@ -12,8 +12,8 @@ use session_store::{Store, format};
 use std::alloc::Global;
 use std::hash::RandomState;
 use std::io::{Error, ErrorKind, Read, Result};
+use std::process::Abort;
 use std::random::RandomSource;
-use std::test::Fail;
 use table_pages::{HostNames, PageTexts, Seconds, TablePages, limits};
 use test_texts::TWO_TABLES;
 use web_loop::{Turn, take_turn};
@@ -46,20 +46,15 @@ fn open(alloc: Global, disk: MemoryDisk) -> Option<ClubStore>
 }
 
 /// The store of the opening session.
-fn opened(alloc: Global) -> std::result::Result<ClubStore, Fail>
-    ensures { IfOk result (λ store. is_settled store.failed store.pending ≡ true) }
+fn opened(rt: &impl Abort, alloc: Global) -> ClubStore
+    ensures { is_settled result.failed result.pending ≡ true }
 {
-    let Ok(config) = read_config(TWO_TABLES.as_bytes()) else {
-        return Err(Fail::from("a configuration"));
-    };
-    let session = Session::new(alloc, config)?;
-    let Ok(disk) = format(MemoryDisk::new(alloc, 2048)?, &session) else {
-        return Err(Fail::from("a formatted disk"));
-    };
-    match open(alloc, disk) {
-        Some(store) => Ok(store),
-        None => Err(Fail::from("an opened store")),
-    }
+    let config = read_config(TWO_TABLES.as_bytes()).ok();
+    let session = Session::new(alloc, config.expect(rt, "a configuration")).ok();
+    let session = session.expect(rt, "a session");
+    let disk = MemoryDisk::new(alloc, 2048).ok().expect(rt, "a disk");
+    let disk = format(disk, &session).ok().expect(rt, "a formatted disk");
+    open(alloc, disk).expect(rt, "an opened store")
 }
 
 /// A clock that stands.
@@ -73,27 +68,22 @@ impl Seconds for StoppedClock {
 }
 
 /// The pages at port 4000 of this computer over the opening session.
-pub fn pages(alloc: Global) -> std::result::Result<TablePages<ClubStore, StoppedClock>, Fail> {
-    pages_with(alloc, StoppedClock)
+pub fn pages(rt: &impl Abort, alloc: Global) -> TablePages<ClubStore, StoppedClock> {
+    pages_with(rt, alloc, StoppedClock)
 }
 
 /// The same with a clock.
 pub fn pages_with<K: Seconds>(
+    rt: &impl Abort,
     alloc: Global,
     clock: K,
-) -> std::result::Result<TablePages<ClubStore, K>, Fail> {
-    let names = HostNames::of_this_computer(alloc, 4000)?;
-    let store = opened(alloc)?;
-    let cache = Cache::new(alloc, 16)?;
-    Ok(TablePages::new(
-        alloc,
-        names,
-        TEXTS,
-        store,
-        cache,
-        Desk::new(600, "club.disk"),
-        clock,
-    ))
+) -> TablePages<ClubStore, K> {
+    let names = HostNames::of_this_computer(alloc, 4000);
+    let names = names.ok().expect(rt, "names");
+    let cache = Cache::new(alloc, 16).ok().expect(rt, "a cache");
+    let store = opened(rt, alloc);
+    let desk = Desk::new(600, "club.disk");
+    TablePages::new(alloc, names, TEXTS, store, cache, desk, clock)
 }
 
 /// Gives so many bytes at each read, and blocks before each and once all are given.
@@ -116,14 +106,14 @@ impl Read for Peer<'_> {
 }
 
 /// All that is written for these requests on one connection, of which each read gives so many bytes, in as many turns.
-pub fn answered<N: RandomSource, K: Seconds>(
+pub fn answered<N: RandomSource + Abort, K: Seconds>(
     rt: &N,
     alloc: Global,
     pages: &mut TablePages<ClubStore, K>,
     requests: &[u8],
     piece: usize,
-) -> std::result::Result<Vec<u8>, Fail> {
-    let mut connection = Connection::new(alloc, RandomState::new(rt)?, limits());
+) -> Vec<u8> {
+    let mut connection = Connection::new(alloc, random(rt), limits());
     let mut peer = Peer {
         unread: requests,
         piece,
@@ -133,8 +123,13 @@ pub fn answered<N: RandomSource, K: Seconds>(
     for _ in 0..200_000 {
         let turn = take_turn(&mut connection, pages, &mut peer, &mut written);
         if turn == Turn::Closes || (peer.unread.is_empty() && !connection.wants_write()) {
-            return Ok(written);
+            return written;
         }
     }
-    Err(Fail::from("an end"))
+    None.expect(rt, "an end")
+}
+
+/// A source of hashes.
+pub fn random<N: RandomSource + Abort>(rt: &N) -> RandomState {
+    RandomState::new(rt).ok().expect(rt, "a random number")
 }

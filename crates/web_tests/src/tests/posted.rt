@@ -1,11 +1,10 @@
 //! Lines that are posted, whole and byte by byte, and results.
 use super::expect_eq;
 use super::peer::{answered, pages};
-use super::requests::{body_of, expect_body, posted, request};
-use std::alloc::Global;
+use super::requests::{body_of, expect_body, post_to, posted};
+use std::alloc::{AllocError, Global};
 use std::process::Abort;
 use std::random::RandomSource;
-use std::test::Fail;
 
 /// A deal, calls of both tables, and lines that are refused.
 const LINES: &str =
@@ -43,26 +42,22 @@ TABLE 2 2 4 - NotCurrent
 ";
 
 /// Fails where the lines, or the question for the tables, are answered otherwise, of which each read gives so many bytes.
-fn expect_served<N: RandomSource + Abort>(rt: &N, alloc: Global, piece: usize) -> Result<(), Fail> {
-    let mut pages = pages(alloc)?;
-    for (first, host, body, due) in [
-        ("POST /lines HTTP/1.1", "127.0.0.1:4000", LINES, REPLIES),
-        ("POST /tables HTTP/1.1", "localhost:4000", "100", TABLES),
-    ] {
-        let bytes = request(alloc, first, host, "application/x-table-lines", body)?;
-        let response = answered(rt, alloc, &mut pages, bytes.as_slice(), piece)?;
-        expect_eq(rt, body_of(response.as_slice()), due.as_bytes(), piece);
-    }
-    Ok(())
+fn expect_served<N: RandomSource + Abort>(rt: &N, alloc: Global, piece: usize) {
+    let mut pages = pages(rt, alloc);
+    let lines = post_to(rt, alloc, "/lines", "127.0.0.1:4000", LINES);
+    let response = answered(rt, alloc, &mut pages, lines.as_bytes(), piece);
+    expect_eq(rt, body_of(&response), REPLIES.as_bytes(), piece);
+    let tables = post_to(rt, alloc, "/tables", "localhost:4000", "100");
+    let response = answered(rt, alloc, &mut pages, tables.as_bytes(), piece);
+    expect_eq(rt, body_of(&response), TABLES.as_bytes(), piece);
 }
 
 // However a request is cut, what it posts is answered and taken.
 #[test]
-fn posted_lines_are_served(rt: HostRuntime) -> Result<(), Fail> {
-    for piece in [1, 7, 4096] {
-        expect_served(&rt, rt.alloc(), piece)?;
-    }
-    Ok(())
+fn posted_lines_are_served(rt: HostRuntime) {
+    expect_served(&rt, rt.alloc(), 1);
+    expect_served(&rt, rt.alloc(), 7);
+    expect_served(&rt, rt.alloc(), 4096);
 }
 
 /// Paths, what is posted there, and the answer.
@@ -77,19 +72,20 @@ static BEFORE_THE_END: &[(&str, &str, &str)] = &[
     ),
 ];
 
+static WHO_IS_TOLD: [&str; 2] = ["11", "100"];
+
 // Results are told to the director at any time, and to a player once the session is closed.
 #[test]
-fn results_wait_for_the_end(rt: HostRuntime) -> Result<(), Fail> {
-    let mut pages = pages(rt.alloc())?;
+fn results_wait_for_the_end(rt: HostRuntime) {
+    let mut pages = pages(&rt, rt.alloc());
     for (path, body, due) in BEFORE_THE_END {
-        expect_body(&rt, rt.alloc(), &mut pages, path, body, due)?;
+        expect_body(&rt, rt.alloc(), &mut pages, path, body, due);
     }
-    for key in ["11", "100"] {
-        let response = posted(&rt, rt.alloc(), &mut pages, "/results", key)?;
-        let body = body_of(response.as_slice());
-        expect_eq(&rt, body.starts_with(b"Club-Night\n"), true, key);
+    for key in &WHO_IS_TOLD {
+        let response = posted(&rt, rt.alloc(), &mut pages, "/results", key);
+        let is_told = body_of(&response).starts_with(b"Club-Night\n");
+        expect_eq(&rt, is_told, true, *key);
     }
-    Ok(())
 }
 
 /// The names of pair 1.
@@ -105,13 +101,12 @@ static NAMES_TOLD: &[(&str, &str)] = &[
 
 // The lines of names are told to whoever has a key.
 #[test]
-fn names_are_told(rt: HostRuntime) -> Result<(), Fail> {
-    let mut pages = pages(rt.alloc())?;
-    let mut people = Vec::new(rt.alloc());
-    people.extend_from_slice(NAMES.as_bytes())?;
+fn names_are_told(rt: HostRuntime) -> Result<(), AllocError> {
+    let people = NAMES.as_bytes().to_vec(rt.alloc())?;
+    let mut pages = pages(&rt, rt.alloc());
     pages.show_names(people);
     for (body, due) in NAMES_TOLD {
-        expect_body(&rt, rt.alloc(), &mut pages, "/names", body, due)?;
+        expect_body(&rt, rt.alloc(), &mut pages, "/names", body, due);
     }
     Ok(())
 }

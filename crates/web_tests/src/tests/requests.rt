@@ -1,10 +1,9 @@
 //! Which requests are answered, and with which status.
 use super::expect_eq;
 use super::peer::{ClubStore, answered, pages};
-use std::alloc::{AllocError, Global};
+use std::alloc::Global;
 use std::process::Abort;
 use std::random::RandomSource;
-use std::test::Fail;
 use table_pages::{Seconds, TablePages};
 
 /// The first line of a request, its host, its type, its body, and the status that is due.
@@ -101,38 +100,40 @@ static ROWS: &[Row] = &[
 
 /// The bytes of a request that closes its connection.
 pub fn request(
+    rt: &impl Abort,
     alloc: Global,
     first: &str,
     host: &str,
     kind: &str,
     body: &str,
-) -> Result<Vec<u8>, Fail> {
-    let length = format!(in alloc; "{}", body.len())?;
-    let mut bytes = Vec::new(alloc);
-    bytes.extend_from_slice(first.as_bytes())?;
-    bytes.extend_from_slice(b"\r\nHost: ")?;
-    bytes.extend_from_slice(host.as_bytes())?;
-    bytes.extend_from_slice(b"\r\nConnection: close\r\nContent-Type: ")?;
-    bytes.extend_from_slice(kind.as_bytes())?;
-    bytes.extend_from_slice(b"\r\nContent-Length: ")?;
-    bytes.extend_from_slice(length.as_bytes())?;
-    bytes.extend_from_slice(b"\r\n\r\n")?;
-    bytes.extend_from_slice(body.as_bytes())?;
-    Ok(bytes)
+) -> String {
+    let length = body.len();
+    let text = format!(in alloc;
+        "{first}\r\nHost: {host}\r\nConnection: close\r\nContent-Type: {kind}\r\nContent-Length: {length}\r\n\r\n{body}"
+    );
+    text.ok().expect(rt, "memory")
+}
+
+/// The type of lines.
+pub const LINES: &str = "application/x-table-lines";
+
+/// The bytes of a body that is posted to a path of a host.
+pub fn post_to(rt: &impl Abort, alloc: Global, path: &str, host: &str, body: &str) -> String {
+    let first = format!(in alloc; "POST {path} HTTP/1.1");
+    let first = first.ok().expect(rt, "memory");
+    request(rt, alloc, first.as_str(), host, LINES, body)
 }
 
 /// What is answered to a body that is posted to a path of this computer's address.
-pub fn posted<N: RandomSource, K: Seconds>(
+pub fn posted<N: RandomSource + Abort, K: Seconds>(
     rt: &N,
     alloc: Global,
     pages: &mut TablePages<ClubStore, K>,
     path: &str,
     body: &str,
-) -> Result<Vec<u8>, Fail> {
-    let first = format!(in alloc; "POST {path} HTTP/1.1")?;
-    let kind = "application/x-table-lines";
-    let bytes = request(alloc, first.as_str(), "127.0.0.1:4000", kind, body)?;
-    answered(rt, alloc, pages, bytes.as_slice(), 4096)
+) -> Vec<u8> {
+    let text = post_to(rt, alloc, path, "127.0.0.1:4000", body);
+    answered(rt, alloc, pages, text.as_bytes(), 4096)
 }
 
 /// Fails where the answer to a posted body does not end so.
@@ -143,11 +144,10 @@ pub fn expect_end<N: RandomSource + Abort, K: Seconds>(
     path: &str,
     body: &str,
     due: &str,
-) -> Result<(), Fail> {
-    let response = posted(rt, alloc, pages, path, body)?;
+) {
+    let response = posted(rt, alloc, pages, path, body);
     let told = body_of(response.as_slice());
     expect_eq(rt, told.ends_with(due.as_bytes()), true, (body, due));
-    Ok(())
 }
 
 /// Fails where the answer to a posted body is another.
@@ -158,10 +158,9 @@ pub fn expect_body<N: RandomSource + Abort, K: Seconds>(
     path: &str,
     body: &str,
     due: &str,
-) -> Result<(), Fail> {
-    let response = posted(rt, alloc, pages, path, body)?;
+) {
+    let response = posted(rt, alloc, pages, path, body);
     expect_eq(rt, body_of(response.as_slice()), due.as_bytes(), body);
-    Ok(())
 }
 
 /// The status of a response.
@@ -185,44 +184,36 @@ fn expect_status<N: RandomSource + Abort, K: Seconds>(
     alloc: Global,
     pages: &mut TablePages<ClubStore, K>,
     row: &Row,
-) -> Result<(), Fail> {
+) {
     let (first, host, kind, body, due) = *row;
-    let bytes = request(alloc, first, host, kind, body)?;
-    let response = answered(rt, alloc, pages, bytes.as_slice(), 4096)?;
+    let text = request(rt, alloc, first, host, kind, body);
+    let response = answered(rt, alloc, pages, text.as_bytes(), 4096);
     expect_eq(rt, status_of(response.as_slice()), due.as_bytes(), row);
-    Ok(())
 }
 
 #[test]
-fn each_request_is_answered(rt: HostRuntime) -> Result<(), Fail> {
-    let mut pages = pages(rt.alloc())?;
+fn each_request_is_answered(rt: HostRuntime) {
+    let mut pages = pages(&rt, rt.alloc());
     for row in ROWS {
-        expect_status(&rt, rt.alloc(), &mut pages, row)?;
+        expect_status(&rt, rt.alloc(), &mut pages, row);
     }
-    Ok(())
 }
 
 /// The bytes of a post to a path that is so much longer, with a field and a body of so many bytes.
-fn long_request(alloc: Global, lengths: (usize, usize, usize)) -> Result<Vec<u8>, Fail> {
-    let (target, field, body) = lengths;
-    let mut bytes = Vec::new(alloc);
-    bytes.extend_from_slice(b"POST /lines")?;
-    push_times(&mut bytes, b'a', target)?;
-    bytes.extend_from_slice(
-        b" HTTP/1.1\r\nHost: 127.0.0.1:4000\r\nConnection: close\r\nContent-Type: application/x-table-lines\r\nA: ",
-    )?;
-    push_times(&mut bytes, b'a', field)?;
-    bytes.extend_from_slice(format!(in alloc; "\r\nContent-Length: {body}\r\n\r\n")?.as_bytes())?;
-    push_times(&mut bytes, b'\n', body)?;
-    Ok(bytes)
+fn long_request(rt: &impl Abort, alloc: Global, lengths: (usize, usize, usize)) -> String {
+    let (target, field, length) = lengths;
+    let target = repeated(rt, alloc, "a", target);
+    let field = repeated(rt, alloc, "a", field);
+    let body = repeated(rt, alloc, "\n", length);
+    let text = format!(in alloc;
+        "POST /lines{target} HTTP/1.1\r\nHost: 127.0.0.1:4000\r\nConnection: close\r\nContent-Type: {LINES}\r\nA: {field}\r\nContent-Length: {length}\r\n\r\n{body}"
+    );
+    text.ok().expect(rt, "memory")
 }
 
-/// Adds a byte so many times.
-fn push_times(bytes: &mut Vec<u8>, byte: u8, times: usize) -> Result<(), AllocError> {
-    for _ in 0..times {
-        bytes.push(byte)?;
-    }
-    Ok(())
+/// A text so many times.
+fn repeated(rt: &impl Abort, alloc: Global, text: &str, times: usize) -> String {
+    text.repeat(alloc, times).ok().expect(rt, "memory")
 }
 
 /// How many bytes a target has too many, a field and a body have, and the status that is due.
@@ -235,17 +226,12 @@ static LIMITS: [((usize, usize, usize), &str); 4] = [
 
 // What is too long is refused with its own status, and nothing of it is taken.
 #[test]
-fn limits_are_kept(rt: HostRuntime) -> Result<(), Fail> {
+fn limits_are_kept(rt: HostRuntime) {
     for (lengths, due) in LIMITS.as_slice() {
-        let bytes = long_request(rt.alloc(), *lengths)?;
-        let mut pages = pages(rt.alloc())?;
-        let response = answered(&rt, rt.alloc(), &mut pages, bytes.as_slice(), 4096)?;
-        expect_eq(
-            &rt,
-            status_of(response.as_slice()),
-            due.as_bytes(),
-            *lengths,
-        );
+        let text = long_request(&rt, rt.alloc(), *lengths);
+        let mut pages = pages(&rt, rt.alloc());
+        let response = answered(&rt, rt.alloc(), &mut pages, text.as_bytes(), 4096);
+        let status = status_of(response.as_slice());
+        expect_eq(&rt, status, due.as_bytes(), *lengths);
     }
-    Ok(())
 }

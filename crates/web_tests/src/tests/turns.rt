@@ -1,13 +1,11 @@
 //! How a turn ends, by what the peer gives and takes.
 use super::expect_eq;
-use super::peer::pages;
+use super::peer::{pages, random};
 use http_server::Connection;
 use std::alloc::Global;
-use std::hash::RandomState;
 use std::io::{Error, ErrorKind, Read, Result, Write};
 use std::process::Abort;
 use std::random::RandomSource;
-use std::test::Fail;
 use table_pages::limits;
 use web_loop::{Turn, take_turn};
 
@@ -146,55 +144,50 @@ static ROWS: [Row; 9] = [
 ];
 
 /// Fails where the turn of a row, of this number, ends otherwise.
-fn expect_turn<N: RandomSource + Abort>(
-    rt: &N,
-    alloc: Global,
-    number: usize,
-    row: &Row,
-) -> std::result::Result<(), Fail> {
+fn expect_turn<N: RandomSource + Abort>(rt: &N, alloc: Global, number: usize, row: &Row) {
     let (fails, piece, first, due, left, is_written) = *row;
-    let mut pages = pages(alloc)?;
-    let mut connection = Connection::new(alloc, RandomState::new(rt)?, limits());
-    let mut giver = Giver {
+    let giver = Giver {
         fails,
         piece,
         unread: REQUESTS,
     };
+    let found = turn_of(rt, alloc, giver, first);
+    expect_eq(rt, found, (due, left, is_written), number);
+}
+
+/// How a turn ends, how many bytes are left unread, and whether any are written.
+fn turn_of<N: RandomSource + Abort>(
+    rt: &N,
+    alloc: Global,
+    giver: Giver,
+    first: Taking,
+) -> (Turn, usize, bool) {
+    let mut giver = giver;
     let mut taker = Taker { first, taken: 0 };
+    let mut connection = Connection::new(alloc, random(rt), limits());
+    let mut pages = pages(rt, alloc);
     let turn = take_turn(&mut connection, &mut pages, &mut giver, &mut taker);
-    expect_eq(rt, turn, due, number);
-    expect_eq(rt, giver.unread.len(), left, number);
-    expect_eq(rt, taker.taken > 0, is_written, number);
-    Ok(())
+    (turn, giver.unread.len(), taker.taken > 0)
 }
 
 // A peer that gives or takes nothing now is waited for, and one that is gone is not; an interruption ends nothing; what is
 // pending goes out before more is read; and a turn ends after 64 steps, here 63 reads of a byte and a write.
 #[test]
-fn turns_end_as_the_peer_has_it(rt: HostRuntime) -> std::result::Result<(), Fail> {
+fn turns_end_as_the_peer_has_it(rt: HostRuntime) {
     for (number, row) in ROWS.iter().enumerate() {
-        expect_turn(&rt, rt.alloc(), number, row)?;
+        expect_turn(&rt, rt.alloc(), number, row);
     }
-    Ok(())
 }
 
 // A turn ends behind the answer to a key that nobody has, and the next request waits for another turn.
 #[test]
-fn a_wrong_key_ends_the_turn_once_it_is_answered(rt: HostRuntime) -> std::result::Result<(), Fail> {
-    let mut pages = pages(rt.alloc())?;
-    let mut connection = Connection::new(rt.alloc(), RandomState::new(&rt)?, limits());
-    let mut giver = Giver {
+fn a_wrong_key_ends_the_turn_once_it_is_answered(rt: HostRuntime) {
+    let half = GUESSES.len() / 2;
+    let giver = Giver {
         fails: None,
-        piece: GUESSES.len() / 2,
+        piece: half,
         unread: GUESSES,
     };
-    let mut taker = Taker {
-        first: Taking::All,
-        taken: 0,
-    };
-    let turn = take_turn(&mut connection, &mut pages, &mut giver, &mut taker);
-    expect_eq(&rt, turn, Turn::GoesOn, "turn");
-    expect_eq(&rt, giver.unread.len(), GUESSES.len() / 2, "unread");
-    expect_eq(&rt, taker.taken > 0, true, "answered");
-    Ok(())
+    let found = turn_of(&rt, rt.alloc(), giver, Taking::All);
+    expect_eq(&rt, found, (Turn::GoesOn, half, true), "answered");
 }
