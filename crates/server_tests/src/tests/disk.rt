@@ -8,7 +8,6 @@ use session_store::{Store, format};
 use std::alloc::Global;
 use std::io::{Read, Write};
 use std::process::Abort;
-use std::test::Fail;
 use table_server::{ServeFault, Served, serve};
 
 /// A store over a disk of which one call may fail.
@@ -26,31 +25,26 @@ pub const DEAL_AND_CALL: &str =
     "DEAL 100 1 N:AKQJT98765432... .AKQJT98765432.. ..AKQJT98765432. ...AKQJT98765432\nCALL 11 1 0 7S\n";
 
 /// The store on this disk, of which the call after so many fails.
-pub fn reopened(alloc: Global, disk: MemoryDisk, passes: u64) -> Result<ClubStore, Fail> {
-    match Store::open(alloc, Fuse::new(disk, passes, FailOf::Once, false)) {
-        Ok(store) => Ok(store),
-        Err(_) => Err(Fail::from("an opened store")),
-    }
+pub fn reopened(rt: &impl Abort, alloc: Global, disk: MemoryDisk, passes: u64) -> ClubStore {
+    let store = Store::open(alloc, Fuse::new(disk, passes, FailOf::Once, false));
+    store.ok().expect(rt, "an opened store")
 }
 
 /// The store of a configuration's opening session, on a disk of which the call after so many fails.
-pub fn opened(alloc: Global, text: &str, passes: u64) -> Result<ClubStore, Fail> {
-    let Ok(config) = read_config(text.as_bytes()) else {
-        return Err(Fail::from("a configuration"));
-    };
-    let session = Session::new(alloc, config)?;
-    let disk = MemoryDisk::new(alloc, 2048)?;
-    match format(disk, &session) {
-        Ok(disk) => reopened(alloc, disk, passes),
-        Err(_) => Err(Fail::from("a formatted disk")),
-    }
+pub fn opened(rt: &impl Abort, alloc: Global, text: &str, passes: u64) -> ClubStore {
+    let config = read_config(text.as_bytes()).ok();
+    let session = Session::new(alloc, config.expect(rt, "a configuration"));
+    let session = session.ok().expect(rt, "a session");
+    let disk = MemoryDisk::new(alloc, 2048).ok().expect(rt, "a disk");
+    let disk = format(disk, &session).ok().expect(rt, "a formatted disk");
+    reopened(rt, alloc, disk, passes)
 }
 
 /// The store as it is after a power cut in which each sector keeps what was synced.
-pub fn after_power_cut(alloc: Global, store: ClubStore) -> Result<ClubStore, Fail> {
+pub fn after_power_cut(rt: &impl Abort, alloc: Global, store: ClubStore) -> ClubStore {
     let mut disk = store.into_disk().into_inner();
     disk.crash(&[]);
-    reopened(alloc, disk, u64::MAX)
+    reopened(rt, alloc, disk, u64::MAX)
 }
 
 /// So many complete lines were served, as many actions accepted, and the store works.

@@ -3,7 +3,7 @@ use super::disk::{ClubStore, answers, opened, serve_with, served};
 use super::expect_eq;
 use bridge_endings::Cache;
 use std::alloc::Global;
-use std::test::Fail;
+use std::process::Abort;
 use test_texts::{SEVEN_SPADES, TWO_TABLES};
 
 /// The eighth trick at table 1.
@@ -14,31 +14,36 @@ CARD 32 1 31 D2
 ";
 
 /// A store in which eight tricks were played.
-fn played(alloc: Global) -> Result<ClubStore, Fail> {
-    let mut store = opened(alloc, TWO_TABLES, u64::MAX)?;
+fn played(rt: &impl Abort, alloc: Global) -> ClubStore {
+    let mut store = opened(rt, alloc, TWO_TABLES, u64::MAX);
     let (_, seven) = answers(alloc, &mut store, SEVEN_SPADES.as_bytes());
+    expect_eq(rt, seven, Ok(served(36, 36)), "seven tricks");
     let (_, eighth) = answers(alloc, &mut store, EIGHTH_TRICK);
-    if seven != Ok(served(36, 36)) || eighth != Ok(served(4, 4)) {
-        return Err(Fail::from("eight tricks"));
-    }
-    Ok(store)
+    expect_eq(rt, eighth, Ok(served(4, 4)), "the eighth");
+    store
+}
+
+const QUESTION: &[u8] = b"SOLVE 100 1 1 1 28\n";
+
+const WORTH: &[u8] = b"OK 3 3\n";
+
+/// Fails where a cache of that size is not used, or the reply with it is another.
+fn expect_cached(rt: &impl Abort, alloc: Global, store: &mut ClubStore, capacity: usize) {
+    let cache = Cache::new(alloc, capacity);
+    let mut cache = cache.ok().expect(rt, "a cache");
+    let mut reader = QUESTION;
+    let mut written = Vec::new(alloc);
+    let _ = serve_with(store, Some(&mut cache), &mut reader, &mut written);
+    expect_eq(rt, written.as_slice(), WORTH, capacity);
+    expect_eq(rt, cache.tried() > 0, true, "the cache is used");
 }
 
 // The reply is the same without a cache and with one of any size, which is used.
 #[test]
-fn an_endings_worth(rt: HostRuntime) -> Result<(), Fail> {
-    let mut store = played(rt.alloc())?;
-    let question = b"SOLVE 100 1 1 1 28\n".as_slice();
-    let due = b"OK 3 3\n".as_slice();
-    let (written, _) = answers(rt.alloc(), &mut store, question);
-    expect_eq(&rt, written.as_slice(), due, "no cache");
-    for capacity in [1, 4096] {
-        let mut cache = Cache::new(rt.alloc(), capacity)?;
-        let mut reader = question;
-        let mut written = Vec::new(rt.alloc());
-        let _ = serve_with(&mut store, Some(&mut cache), &mut reader, &mut written);
-        expect_eq(&rt, written.as_slice(), due, capacity);
-        expect_eq(&rt, cache.tried() > 0, true, "the cache is used");
-    }
-    Ok(())
+fn an_endings_worth(rt: HostRuntime) {
+    let mut store = played(&rt, rt.alloc());
+    let (written, _) = answers(rt.alloc(), &mut store, QUESTION);
+    expect_eq(&rt, written.as_slice(), WORTH, "no cache");
+    expect_cached(&rt, rt.alloc(), &mut store, 1);
+    expect_cached(&rt, rt.alloc(), &mut store, 4096);
 }

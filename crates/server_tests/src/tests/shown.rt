@@ -5,7 +5,7 @@ use super::streams::{Failing, FullOnce, Pieces};
 use bridge_cards::BoardNumber;
 use std::alloc::Global;
 use std::cell::Cell;
-use std::test::Fail;
+use std::process::Abort;
 use table_server::{ServeFault, run_auction};
 
 /// What a run did.
@@ -19,12 +19,13 @@ struct Seen {
 
 /// A run of board 1 over the pieces, with that much room.
 fn run(
+    rt: &impl Abort,
     alloc: Global,
     pieces: &[&'static str],
     room: usize,
     failing: Failing,
-) -> Result<Seen, Fail> {
-    let board = BoardNumber::new(1).ok_or("a board")?;
+) -> Seen {
+    let board = BoardNumber::new(1).expect(rt, "a board");
     let shown = Cell::new(0);
     let mut reader = Pieces {
         pieces,
@@ -40,18 +41,18 @@ fn run(
         shown: &shown,
     };
     let result = run_auction(board, &mut reader, &mut writer);
-    Ok(Seen {
+    Seen {
         result,
         reads: reader.seen,
         bytes: writer.bytes,
         shown: shown.get(),
-    })
+    }
 }
 
 #[test]
-fn replies_are_shown_before_the_next_read(rt: HostRuntime) -> Result<(), Fail> {
+fn replies_are_shown_before_the_next_read(rt: HostRuntime) {
     let pieces = ["1C\n", "PA", "SS\n", "1D\nXX\n"];
-    let seen = run(rt.alloc(), pieces.as_slice(), 100, Failing::Refuses)?;
+    let seen = run(&rt, rt.alloc(), &pieces, 100, Failing::Refuses);
     expect_eq(&rt, seen.result, Ok(()), "the run");
     // `OK` and a line feed are 3 bytes, `ERR 19 InadmissibleRedouble` with one is 28, and `UNFINISHED` with one 11
     let due = [0, 3, 3, 6, 37];
@@ -62,43 +63,61 @@ fn replies_are_shown_before_the_next_read(rt: HostRuntime) -> Result<(), Fail> {
         "shown before each read",
     );
     expect_eq(&rt, seen.shown, 48, "shown at the end");
-    Ok(())
 }
 
 #[test]
-fn a_read_fault_ends_the_run(rt: HostRuntime) -> Result<(), Fail> {
-    let seen = run(rt.alloc(), &["1C\n", "", "1D\n"], 100, Failing::Refuses)?;
+fn a_read_fault_ends_the_run(rt: HostRuntime) {
+    let pieces = ["1C\n", "", "1D\n"];
+    let seen = run(&rt, rt.alloc(), &pieces, 100, Failing::Refuses);
     expect_eq(&rt, seen.result, Err(ServeFault::Read), "the run");
     expect_eq(&rt, seen.bytes.as_slice(), b"OK\n".as_slice(), "written");
     expect_eq(&rt, seen.reads.len(), 2, "reads");
-    Ok(())
+}
+
+/// Fails where a run of the pieces does not end at a fault of the writer with that much room, has written something else, or
+/// reads the second piece.
+fn expect_fault(
+    rt: &impl Abort,
+    alloc: Global,
+    pieces: &[&'static str],
+    at: (usize, Failing),
+    written: &[u8],
+) {
+    let (room, failing) = at;
+    let seen = run(rt, alloc, pieces, room, failing);
+    expect_eq(rt, seen.result, Err(ServeFault::Write), room);
+    expect_eq(rt, seen.bytes.as_slice(), written, (failing, room));
+    if pieces.len() > 1 {
+        expect_eq(rt, seen.reads.len(), 1, (failing, room));
+    }
+}
+
+/// What is written where there is room for all.
+const WHOLE: &[u8] = b"OK\nOK\nUNFINISHED\n";
+
+/// Whatever room there is.
+fn expect_faults(rt: &impl Abort, alloc: Global, failing: Failing) {
+    for room in 0..WHOLE.len() {
+        let due = &WHOLE[..room];
+        expect_fault(rt, alloc, &["1C\n1D\n"], (room, failing), due);
+    }
+    // Nothing is read after the fault.
+    for room in 0..6 {
+        let due = &WHOLE[..room];
+        expect_fault(rt, alloc, &["1C\n1D\n", "1H\n"], (room, failing), due);
+    }
 }
 
 #[test]
-fn a_write_fault_ends_the_run(rt: HostRuntime) -> Result<(), Fail> {
-    let whole = b"OK\nOK\nUNFINISHED\n";
-    for failing in [Failing::Refuses, Failing::TakesNone] {
-        for room in 0..whole.len() {
-            let seen = run(rt.alloc(), &["1C\n1D\n"], room, failing)?;
-            expect_eq(&rt, seen.result, Err(ServeFault::Write), room);
-            expect_eq(&rt, seen.bytes.as_slice(), &whole[..room], (failing, room));
-        }
-        // Nothing is read after the fault.
-        for room in 0..6 {
-            let seen = run(rt.alloc(), &["1C\n1D\n", "1H\n"], room, failing)?;
-            expect_eq(&rt, seen.result, Err(ServeFault::Write), room);
-            expect_eq(&rt, seen.reads.len(), 1, (failing, room));
-        }
-    }
-    Ok(())
+fn a_write_fault_ends_the_run(rt: HostRuntime) {
+    expect_faults(&rt, rt.alloc(), Failing::Refuses);
+    expect_faults(&rt, rt.alloc(), Failing::TakesNone);
 }
 
 #[test]
-fn bytes_kept_back_are_a_write_fault(rt: HostRuntime) -> Result<(), Fail> {
-    for (room, written) in [(0, "OK\n"), (3, "OK\nUNFINISHED\n")] {
-        let seen = run(rt.alloc(), &["1C\n"], room, Failing::KeepsBack)?;
-        expect_eq(&rt, seen.result, Err(ServeFault::Write), room);
-        expect_eq(&rt, seen.bytes.as_slice(), written.as_bytes(), room);
-    }
-    Ok(())
+fn bytes_kept_back_are_a_write_fault(rt: HostRuntime) {
+    let kept = (0, Failing::KeepsBack);
+    expect_fault(&rt, rt.alloc(), &["1C\n"], kept, b"OK\n");
+    let kept = (3, Failing::KeepsBack);
+    expect_fault(&rt, rt.alloc(), &["1C\n"], kept, b"OK\nUNFINISHED\n");
 }
