@@ -1,12 +1,12 @@
 //! A deal that was worked out by hand, texts that are refused, and a reader that fails.
+use crate::tests::expect_eq;
 use bridge_cards::{Seat, Vulnerability};
 use makeable_deals::{
     DealsFault, DealsRefused, MakeableFault, MakeableForm, Progress, makeable_of_reader, read_deals,
 };
-use std::alloc::Global;
+use std::alloc::{AllocError, Global};
 use std::io::{self, Error, ErrorKind, Read};
 use std::process::Abort;
-use std::test::Fail;
 
 const LINES: &str = "1 N 0 13 0 13 0
 1 E 13 0 13 0 0
@@ -20,23 +20,21 @@ const DEAL: &str = "AKQJT98765432... .AKQJT98765432.. ..AKQJT98765432. ...AKQJT9
 // North has all the spades, East the hearts, South the diamonds and West the clubs. With its own suit as trumps a side takes all
 // the tricks; without trumps whoever leads does, so the declarer none. Seven spades is the highest bid that makes.
 #[test]
-fn a_suit_in_each_hand(rt: HostRuntime) -> Result<(), Fail> {
-    let alloc = rt.alloc();
-    let text = format!(in alloc;
+fn a_suit_in_each_hand(rt: HostRuntime) {
+    let text = format!(in rt.alloc();
         "% PBN 2.1\r\n[Event \"-\"]\r\n[Board \"1\"]\r\n[Deal \"N:{DEAL}\"]\r\n"
-    )?;
-    let mut written = Vec::<u8>::new(alloc);
-    let made = makeable_of_reader(
-        alloc,
-        MakeableForm::Lines,
-        Progress::silent(),
-        &mut text.as_str().as_bytes(),
-        &mut written,
     );
-    assert_eq!(&rt; made, Ok(()));
-    let lines = str::from_utf8(written.as_slice()).ok().ok_or("a text")?;
-    assert_eq!(&rt; lines, LINES);
-    Ok(())
+    let text = text.ok().expect(&rt, "memory");
+    expect_made(&rt, rt.alloc(), MakeableForm::Lines, text.as_str(), LINES);
+}
+
+/// Fails where something else is written of a text.
+fn expect_made(rt: &impl Abort, alloc: Global, form: MakeableForm, text: &str, due: &str) {
+    let mut written = Vec::<u8>::new(alloc);
+    let mut reader = text.as_bytes();
+    let made = makeable_of_reader(alloc, form, Progress::silent(), &mut reader, &mut written);
+    expect_eq(rt, made, Ok(()), due);
+    expect_eq(rt, written.as_slice(), due.as_bytes(), due);
 }
 
 const TAGS: &str = "[OptimumScore \"NS 1510\"]
@@ -66,39 +64,36 @@ W  C 13
 
 // The same deal on two boards, the second without a line feed at its end: each has its own par, by who is vulnerable.
 #[test]
-fn games_with_tags(rt: HostRuntime) -> Result<(), Fail> {
+fn games_with_tags(rt: HostRuntime) {
     let alloc = rt.alloc();
     let games = format!(in alloc;
         "[Board \"1\"]\r\n[Deal \"N:{DEAL}\"]\n[Scoring \"MP\"]\n\n[Board \"2\"]\n[Deal \"N:{DEAL}\"]"
-    )?;
-    let mut written = Vec::<u8>::new(alloc);
-    let form = MakeableForm::Games;
-    let made = makeable_of_reader(
-        alloc,
-        form,
-        Progress::silent(),
-        &mut games.as_str().as_bytes(),
-        &mut written,
     );
-    assert_eq!(&rt; made, Ok(()));
-    let second = TAGS.replace(alloc, "1510", "2210")?;
+    let games = games.ok().expect(&rt, "memory");
+    let due = games_due(&rt, alloc);
+    let form = MakeableForm::Games;
+    expect_made(&rt, alloc, form, games.as_str(), due.as_str());
+}
+
+/// The two games with their tags.
+fn games_due(rt: &impl Abort, alloc: Global) -> String {
+    let second = TAGS.replace(alloc, "1510", "2210");
+    let second = second.ok().expect(rt, "memory");
     let second = second.as_str();
     let due = format!(in alloc;
         "[Board \"1\"]\n[Deal \"N:{DEAL}\"]\n{TAGS}[Scoring \"MP\"]\n\n[Board \"2\"]\n[Deal \"N:{DEAL}\"]\n{second}"
-    )?;
-    let text = str::from_utf8(written.as_slice()).ok().ok_or("a text")?;
-    assert_eq!(&rt; text, due.as_str());
-    Ok(())
+    );
+    due.ok().expect(rt, "memory")
 }
 
 /// Fails where a text is not refused with this fault.
 fn expect_refused(rt: &impl Abort, alloc: Global, text: &str, line: u32, cause: DealsRefused) {
-    let found = read_deals(alloc, text.as_bytes()).map(|deals| deals.len());
-    assert_eq!(rt; found, Err(DealsFault::Line(line, cause)), "{text}");
+    let found = read_deals(alloc, text.as_bytes()).err();
+    expect_eq(rt, found, Some(DealsFault::Line(line, cause)), text);
 }
 
 #[test]
-fn texts_that_are_refused(rt: HostRuntime) -> Result<(), Fail> {
+fn texts_that_are_refused(rt: HostRuntime) -> Result<(), AllocError> {
     let alloc = rt.alloc();
     expect_refused(&rt, alloc, "\n[Board \"37\"]\n", 2, DealsRefused::Board);
     expect_refused(&rt, alloc, "[Board \"01\"]\n", 1, DealsRefused::Board);
@@ -130,23 +125,32 @@ fn texts_that_are_refused(rt: HostRuntime) -> Result<(), Fail> {
 // The second board and the director's third have no tags of their own: East deals the second, where North and South are
 // vulnerable, and South the third, where East and West are (Law 2).
 #[test]
-fn tags_of_an_earlier_board_do_not_last(rt: HostRuntime) -> Result<(), Fail> {
+fn tags_of_an_earlier_board_do_not_last(rt: HostRuntime) -> Result<(), AllocError> {
     let alloc = rt.alloc();
     let text = format!(in alloc;
         "[Board \"1\"]\n[Dealer \"W\"]\n[Vulnerable \"Both\"]\n[Deal \"N:{DEAL}\"]\n[Board \"2\"]\n[Deal \"E:{DEAL}\"]\nDEAL 52817 3 N:{DEAL}"
     )?;
-    let deals = read_deals(alloc, text.as_bytes()).ok().ok_or("deals")?;
-    let first = deals.get(0).ok_or("the first")?;
-    assert_eq!(&rt; (first.board.number(), first.dealer), (1, Seat::West));
-    assert_eq!(&rt; first.vulnerability, Vulnerability::Both);
-    let second = deals.get(1).ok_or("the second")?;
-    assert_eq!(&rt; (second.board.number(), second.dealer), (2, Seat::East));
-    assert_eq!(&rt; second.vulnerability, Vulnerability::NorthSouth);
-    let third = deals.get(2).ok_or("the third")?;
-    assert_eq!(&rt; (third.board.number(), third.dealer), (3, Seat::South));
-    assert_eq!(&rt; third.vulnerability, Vulnerability::EastWest);
-    assert_eq!(&rt; deals.len(), 3);
+    expect_boards(&rt, alloc, text.as_str());
     Ok(())
+}
+
+/// The number, the dealer and who is vulnerable of each board.
+static BOARDS: [(u8, Seat, Vulnerability); 3] = [
+    (1, Seat::West, Vulnerability::Both),
+    (2, Seat::East, Vulnerability::NorthSouth),
+    (3, Seat::South, Vulnerability::EastWest),
+];
+
+/// Fails where a text has other boards.
+fn expect_boards(rt: &impl Abort, alloc: Global, text: &str) {
+    let deals = read_deals(alloc, text.as_bytes());
+    let deals = deals.ok().expect(rt, "deals");
+    expect_eq(rt, deals.len(), 3, "boards");
+    for (index, due) in BOARDS.iter().enumerate() {
+        let deal = deals.get(index).expect(rt, "a board");
+        let found = (deal.board.number(), deal.dealer, deal.vulnerability);
+        expect_eq(rt, found, *due, index);
+    }
 }
 
 /// A reader that gives one line, and then fails.
@@ -167,7 +171,7 @@ impl Read for Broken {
 }
 
 #[test]
-fn a_read_that_fails(rt: HostRuntime) -> Result<(), Fail> {
+fn a_read_that_fails(rt: HostRuntime) {
     let mut written = Vec::<u8>::new(rt.alloc());
     let mut broken = Broken { given: false };
     let made = makeable_of_reader(
@@ -177,7 +181,6 @@ fn a_read_that_fails(rt: HostRuntime) -> Result<(), Fail> {
         &mut broken,
         &mut written,
     );
-    assert_eq!(&rt; made, Err(MakeableFault::Read));
-    assert_eq!(&rt; written.len(), 0);
-    Ok(())
+    expect_eq(&rt, made, Err(MakeableFault::Read), "made");
+    expect_eq(&rt, written.len(), 0, "written");
 }

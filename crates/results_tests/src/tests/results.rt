@@ -1,18 +1,18 @@
 //! Worked results of three tables, three rounds and three boards, each worked out by hand from the Laws.
+mod games;
 mod html;
 mod makeable;
 mod pages;
 mod script;
 mod tables;
 
-use bridge_cards::{Card, Side};
+use crate::tests::expect_eq;
+use bridge_cards::Side;
 use bridge_ranking::PlayResult;
 use bridge_results::{BoardLine, CardLine, Frequency, Results, TablePlay, frequencies};
 use bridge_session::{Action, Average, Field, Session, TrickCount};
 use script::{DIRECTOR, IMPS, MATCHPOINTS, act, board, dealt, play, played, round_1, round_2};
 use std::process::Abort;
-use std::str::FromStr;
-use std::test::Fail;
 
 /// Of a line: the round, the table, the pairs, the score if there is one, and what each side gained.
 type Row = (u8, u8, u8, u8, Option<i32>, Option<(i32, i32)>);
@@ -34,9 +34,10 @@ fn row_of(line: &BoardLine) -> Row {
 }
 
 fn expect_rows(rt: &impl Abort, lines: &[BoardLine], rows: &[Row]) {
-    assert_eq!(rt; lines.len(), rows.len());
-    for (line, row) in lines.iter().zip(rows) {
-        assert_eq!(rt; row_of(line), *row);
+    expect_eq(rt, lines.len(), rows.len(), "lines");
+    for index in 0..rows.len() {
+        let line = lines.get(index).expect(rt, "a line");
+        expect_eq(rt, row_of(line), rows[index], index);
     }
 }
 
@@ -44,36 +45,50 @@ fn expect_rows(rt: &impl Abort, lines: &[BoardLine], rows: &[Row]) {
 type Often = (i32, u8, i32, i32);
 
 fn expect_frequencies(rt: &impl Abort, found: &[Frequency], due: &[Often]) {
-    assert_eq!(rt; found.len(), due.len());
-    for (found, due) in found.iter().zip(due) {
-        assert_eq!(rt;
-            (found.score, found.count, found.ns_gain, found.ew_gain),
-            *due
-        );
+    expect_eq(rt, found.len(), due.len(), "frequencies");
+    for index in 0..due.len() {
+        let line = found.get(index).expect(rt, "a line");
+        let often = (line.score, line.count, line.ns_gain, line.ew_gain);
+        expect_eq(rt, often, due[index], index);
     }
 }
 
 /// Of a line of a card: the board, the round, the opponents, the score, and the gain of what was available.
 type Own = (u8, u8, u8, Option<i32>, i32, u32);
 
+fn own_of(line: &CardLine) -> Own {
+    (
+        line.board.number(),
+        line.round,
+        line.opponents,
+        line.score,
+        line.gain,
+        line.available,
+    )
+}
+
 fn expect_card(rt: &impl Abort, side: Side, lines: &[CardLine], rows: &[Own]) {
-    assert_eq!(rt; lines.len(), rows.len());
-    for (line, row) in lines.iter().zip(rows) {
-        assert_eq!(rt; line.side, side);
-        let found = (
-            line.board.number(),
-            line.round,
-            line.opponents,
-            line.score,
-            line.gain,
-            line.available,
-        );
-        assert_eq!(rt; found, *row);
+    expect_eq(rt, lines.len(), rows.len(), "lines");
+    for index in 0..rows.len() {
+        let line = lines.get(index).expect(rt, "a line");
+        expect_eq(rt, line.side, side, index);
+        expect_eq(rt, own_of(line), rows[index], index);
     }
 }
 
+/// How many of the lines name a lead.
+fn leads_in(lines: &[BoardLine]) -> usize {
+    let mut leads: usize = 0;
+    for line in lines {
+        if line.play.lead.is_some() {
+            leads = leads.saturating_add(1);
+        }
+    }
+    leads
+}
+
 #[test]
-fn three_rounds_by_matchpoints(rt: HostRuntime) -> Result<(), Fail> {
+fn three_rounds_by_matchpoints(rt: HostRuntime) {
     static LINES: [Row; 3] = [
         (2, 3, 3, 5, Some(450), Some((40, 0))),
         (1, 1, 1, 4, Some(420), Some((20, 20))),
@@ -86,21 +101,20 @@ fn three_rounds_by_matchpoints(rt: HostRuntime) -> Result<(), Fail> {
         (2, 2, 1, Some(100), 40, 40),
         (1, 3, 2, Some(-300), 40, 40),
     ];
-    let session = played(&rt, rt.alloc(), MATCHPOINTS)?;
+    let session = played(&rt, rt.alloc(), MATCHPOINTS);
     let results = Results::new(&session);
     let lines = results.traveller(board(&rt, 1));
     expect_rows(&rt, &lines, &LINES);
-    let leads = lines.iter().filter(|line| line.play.lead.is_some()).count();
-    assert_eq!(rt; leads, 1);
+    expect_eq(&rt, leads_in(&lines), 1, "leads");
     expect_frequencies(&rt, &frequencies(&lines), &OFTEN);
     expect_card(&rt, Side::EastWest, &results.score_card(6), &CARD);
     let ranking = results.ranking(Field::Second);
-    assert_eq!(rt; ranking.map(|lines| lines.len()), Some(3));
-    Ok(())
+    let ranking = ranking.expect(&rt, "a second field");
+    expect_eq(&rt, ranking.len(), 3, "ranked");
 }
 
 #[test]
-fn three_rounds_by_imps(rt: HostRuntime) -> Result<(), Fail> {
+fn three_rounds_by_imps(rt: HostRuntime) {
     // 150 points are 4 IMPs, 120 are 3, 30 are 1.
     static OFTEN: [Often; 3] = [(450, 1, 5, -5), (420, 1, 2, -2), (300, 1, -7, 7)];
     // Pair 2 has 33.
@@ -109,12 +123,11 @@ fn three_rounds_by_imps(rt: HostRuntime) -> Result<(), Fail> {
         (3, 2, 4, Some(200), 16, 40),
         (1, 3, 6, Some(300), -7, 40),
     ];
-    let session = played(&rt, rt.alloc(), IMPS)?;
+    let session = played(&rt, rt.alloc(), IMPS);
     let results = Results::new(&session);
     let lines = results.traveller(board(&rt, 1));
     expect_frequencies(&rt, &frequencies(&lines), &OFTEN);
     expect_card(&rt, Side::NorthSouth, &results.score_card(2), &CARD);
-    Ok(())
 }
 
 /// The director rules that the declarer of the board of table 1 in round 1 took eleven tricks.
@@ -130,12 +143,12 @@ fn rule(rt: &impl Abort, session: &mut Session) {
 }
 
 #[test]
-fn equal_scores_stand_by_round(rt: HostRuntime) -> Result<(), Fail> {
+fn equal_scores_stand_by_round(rt: HostRuntime) {
     static LINES: [Row; 2] = [
         (1, 1, 1, 4, Some(450), Some((10, 10))),
         (2, 3, 3, 5, Some(450), Some((10, 10))),
     ];
-    let mut session = dealt(&rt, rt.alloc(), MATCHPOINTS)?;
+    let mut session = dealt(&rt, rt.alloc(), MATCHPOINTS);
     round_1(&rt, &mut session);
     round_2(&rt, &mut session);
     rule(&rt, &mut session);
@@ -143,7 +156,6 @@ fn equal_scores_stand_by_round(rt: HostRuntime) -> Result<(), Fail> {
     let lines = results.traveller(board(&rt, 1));
     expect_rows(&rt, &lines, &LINES);
     expect_frequencies(&rt, &frequencies(&lines), &[(450, 2, 10, 10)]);
-    Ok(())
 }
 
 /// The director gives averages for board 2 at table 1 in round 2.
@@ -194,8 +206,8 @@ static CARD_OF_PAIR_1: [Own; 3] = [
 
 // Adjusted plays stand below all scores, void ones last. Averages are of what is available: 20 where two scores are left.
 #[test]
-fn adjusted_and_void_plays(rt: HostRuntime) -> Result<(), Fail> {
-    let mut session = played(&rt, rt.alloc(), MATCHPOINTS)?;
+fn adjusted_and_void_plays(rt: HostRuntime) {
+    let mut session = played(&rt, rt.alloc(), MATCHPOINTS);
     adjust(&rt, &mut session);
     let board = board(&rt, 2);
     let lines = Results::new(&session).traveller(board);
@@ -209,6 +221,5 @@ fn adjusted_and_void_plays(rt: HostRuntime) -> Result<(), Fail> {
         &results.score_card(1),
         &CARD_OF_PAIR_1,
     );
-    assert_eq!(rt; results.score_card(7).len(), 0);
-    Ok(())
+    expect_eq(&rt, results.score_card(7).len(), 0, "no pair 7");
 }

@@ -1,24 +1,18 @@
 //! HTML pages of the worked session: rows that were worked out by hand.
-use super::pages::{holds, page_of, page_shown};
+use super::pages::{page_of, page_shown};
 use super::script::{DIRECTOR, IMPS, MATCHPOINTS, act, play, played};
 use super::{adjust, void};
+use crate::tests::expect_parts;
 use bridge_auction::{Bid, Call, Contract, Doubling};
 use bridge_cards::Seat;
 use bridge_session::{Action, Session, TrickCount};
 use page_layout::Format;
 use std::process::Abort;
 use std::str::FromStr;
-use std::test::Fail;
-
-fn expect_parts(rt: &impl Abort, page: &[u8], parts: &[&str]) {
-    for part in parts {
-        assert!(rt; holds(page, part), "{part}");
-    }
-}
 
 #[test]
-fn by_imps(rt: HostRuntime) -> Result<(), Fail> {
-    let page = page_of(&rt, rt.alloc(), IMPS, Format::Html)?;
+fn by_imps(rt: HostRuntime) {
+    let page = page_of(&rt, rt.alloc(), IMPS, Format::Html);
     static PARTS: [&str; 5] = [
         "<title>Club-Night</title>",
         "<tr><td class=\"r\">1</td><td class=\"r\"><a href=\"#pair-2\">2</a></td><td>Cat and Dan</td><td class=\"r\">33</td></tr>",
@@ -27,13 +21,12 @@ fn by_imps(rt: HostRuntime) -> Result<(), Fail> {
         "<td>4<span class=\"s\">&spades;</span>x-2</td><td>E</td><td class=\"r\">300</td><td class=\"r\">-7</td></tr>",
     ];
     expect_parts(&rt, page.as_slice(), &PARTS);
-    Ok(())
 }
 
 // Pair 6 has 12.0 of 12.0: on board 1 all of 4.0, as the only one in that contract.
 #[test]
-fn by_matchpoints(rt: HostRuntime) -> Result<(), Fail> {
-    let page = page_of(&rt, rt.alloc(), MATCHPOINTS, Format::Html)?;
+fn by_matchpoints(rt: HostRuntime) {
+    let page = page_of(&rt, rt.alloc(), MATCHPOINTS, Format::Html);
     static PARTS: [&str; 8] = [
         "<h2>Ranking NS</h2>",
         "<h2>Ranking EW</h2>",
@@ -48,14 +41,13 @@ fn by_matchpoints(rt: HostRuntime) -> Result<(), Fail> {
         ),
     ];
     expect_parts(&rt, page.as_slice(), &PARTS);
-    Ok(())
 }
 
 // Board 1 at table 1 in round 1: 4H by North, East leads the ace of trumps and wins with it, and North claims ten of the twelve
 // tricks that are left. Board 2, of which East is the dealer: the fifth call stands below the first.
 #[test]
-fn auctions_and_plays(rt: HostRuntime) -> Result<(), Fail> {
-    let page = page_of(&rt, rt.alloc(), MATCHPOINTS, Format::Html)?;
+fn auctions_and_plays(rt: HostRuntime) {
+    let page = page_of(&rt, rt.alloc(), MATCHPOINTS, Format::Html);
     static PARTS: [&str; 4] = [
         concat!(
             "<summary>1 Ann and Bob, 4 Gus and Hal: 4<span class=\"h\">&hearts;</span>= N</summary>\n<p>Round 1, table 1</p>\n",
@@ -72,7 +64,6 @@ fn auctions_and_plays(rt: HostRuntime) -> Result<(), Fail> {
         ),
     ];
     expect_parts(&rt, page.as_slice(), &PARTS);
-    Ok(())
 }
 
 /// The director assigns 7C redoubled and made by North to board 1 at table 1 in round 1.
@@ -97,11 +88,11 @@ fn assign(rt: &impl Abort, session: &mut Session) {
 // 7C redoubled and made: 560, 300 for game, 1000 for the grand slam, 100 for the redouble. Where one score of a board is left
 // nothing is available.
 #[test]
-fn rulings(rt: HostRuntime) -> Result<(), Fail> {
-    let mut session = played(&rt, rt.alloc(), MATCHPOINTS)?;
+fn rulings(rt: HostRuntime) {
+    let mut session = played(&rt, rt.alloc(), MATCHPOINTS);
     adjust(&rt, &mut session);
     assign(&rt, &mut session);
-    let page = page_shown(&session, rt.alloc(), Format::Html)?;
+    let page = page_shown(&rt, &session, rt.alloc(), Format::Html);
     static PARTS: [&str; 2] = [
         concat!(
             "<td><a href=\"#play-1-1-1\">7<span class=\"c\">&clubs;</span>xx=*</a></td><td>N</td><td><span class=\"h\">&hearts;</span>A</td>",
@@ -114,9 +105,8 @@ fn rulings(rt: HostRuntime) -> Result<(), Fail> {
     ];
     expect_parts(&rt, page.as_slice(), &PARTS);
     void(&rt, &mut session);
-    let page = page_shown(&session, rt.alloc(), Format::Html)?;
+    let page = page_shown(&rt, &session, rt.alloc(), Format::Html);
     let part =
         "<td><a href=\"#play-2-1-2\">Void</a></td><td></td><td></td><td class=\"r\"></td><td class=\"r\"></td><td class=\"r\"></td><td class=\"r\"></td><td class=\"r\"></td></tr>";
     expect_parts(&rt, page.as_slice(), &[part]);
-    Ok(())
 }

@@ -1,13 +1,13 @@
 //! Pages with what could be made: rows that were worked out by hand.
-use super::pages::holds;
-use super::script::{MATCHPOINTS, board, played};
+use super::pages::page_with;
+use super::script::board;
+use crate::tests::{expect_eq, expect_parts, times};
 use arrayvec::ArrayVec;
 use bridge_par::{DeclarerTricks, TrickTable};
-use bridge_results::{Analysis, Makeable, PlayCosts, write_results_with};
+use bridge_results::{Analysis, Makeable, PlayCosts};
 use page_layout::Format;
 use std::alloc::Global;
 use std::process::Abort;
-use std::test::Fail;
 
 /// North has the spades, East the hearts, South the diamonds and West the clubs: with its own suit as trumps a side takes all the
 /// tricks, and without trumps the declarer takes none.
@@ -113,35 +113,26 @@ const GAME: TrickTable = TrickTable {
 };
 
 /// The page with these tables on boards 1 to 3.
-fn page_with(
+fn page_of_tables(
     rt: &impl Abort,
     alloc: Global,
     boards: &[Option<Makeable>],
     format: Format,
-) -> Result<Vec<u8>, Fail> {
-    let session = played(rt, alloc, MATCHPOINTS)?;
-    let mut page = Vec::new(alloc);
+) -> Vec<u8> {
     let analysis = Analysis { boards, plays: &[] };
-    write_results_with(&session, None, &analysis, format, &mut page)?;
-    Ok(page)
-}
-
-fn expect_parts(rt: &impl Abort, page: &[u8], parts: &[&str]) {
-    for part in parts {
-        assert!(rt; holds(page, part), "{part}");
-    }
+    page_with(rt, alloc, None, &analysis, format)
 }
 
 // Board 1, with nobody vulnerable, has the par of `SUITS`. Of board 2 nothing is known. On board 3, with East and West vulnerable, a
 // contract that each of five bids reaches stands in the first nine, the next ten, and the last.
 #[test]
-fn plain_text(rt: HostRuntime) -> Result<(), Fail> {
+fn plain_text(rt: HostRuntime) {
     let analysis = [
         Some(Makeable { table: SUITS }),
         None,
         Some(Makeable { table: PART_SCORES }),
     ];
-    let page = page_with(&rt, rt.alloc(), &analysis, Format::Plain)?;
+    let page = page_of_tables(&rt, rt.alloc(), &analysis, Format::Plain);
     static LINES: [&str; 3] = [
         concat!(
             "\n  Can be made      C      D      H      S     NT\n",
@@ -159,23 +150,19 @@ fn plain_text(rt: HostRuntime) -> Result<(), Fail> {
     ];
     expect_parts(&rt, page.as_slice(), &LINES);
     let second = "\nBoard 2\nDealer: E, vulnerable: NS\n";
-    assert!(&rt; holds(page.as_slice(), second));
-    let tables = page
-        .as_slice()
-        .windows(11)
-        .filter(|found| *found == b"Can be made".as_slice());
-    assert_eq!(&rt; tables.count(), 2);
-    Ok(())
+    expect_parts(&rt, page.as_slice(), &[second]);
+    let tables = times(page.as_slice(), "Can be made");
+    expect_eq(&rt, tables, 2, "tables");
 }
 
 // On board 2 North and South are vulnerable: five diamonds doubled and two down costs 300, less than four spades.
 #[test]
-fn html(rt: HostRuntime) -> Result<(), Fail> {
+fn html(rt: HostRuntime) {
     let analysis = [
         Some(Makeable { table: SUITS }),
         Some(Makeable { table: GAME }),
     ];
-    let page = page_with(&rt, rt.alloc(), &analysis, Format::Html)?;
+    let page = page_of_tables(&rt, rt.alloc(), &analysis, Format::Html);
     static PARTS: [&str; 4] = [
         concat!(
             "</table>\n<table class=\"makeable\">\n<caption>Can be made</caption>\n<thead><tr><th scope=\"col\">By</th>",
@@ -189,13 +176,11 @@ fn html(rt: HostRuntime) -> Result<(), Fail> {
         "<p>Par: 300, 5<span class=\"d\">&diams;</span>x E</p>\n",
     ];
     expect_parts(&rt, page.as_slice(), &PARTS);
-    Ok(())
 }
 
 // The four cards of board 1 at table 1 in round 1. Of the second play nothing is known.
 #[test]
-fn cards_that_cost_a_trick(rt: HostRuntime) -> Result<(), Fail> {
-    let session = played(&rt, rt.alloc(), MATCHPOINTS)?;
+fn cards_that_cost_a_trick(rt: HostRuntime) {
     let mut cards = ArrayVec::new();
     cards.push(1);
     cards.push(0);
@@ -211,8 +196,7 @@ fn cards_that_cost_a_trick(rt: HostRuntime) -> Result<(), Fail> {
         boards: &[],
         plays: &costs,
     };
-    let mut page = Vec::new(rt.alloc());
-    write_results_with(&session, None, &analysis, Format::Html, &mut page)?;
+    let page = page_with(&rt, rt.alloc(), None, &analysis, Format::Html);
     static PARTS: [&str; 2] = [
         "<h2>Boards</h2>\n<p>A card with -1 behind it gave a trick away, as all the cards lay.</p>\n",
         concat!(
@@ -221,5 +205,4 @@ fn cards_that_cost_a_trick(rt: HostRuntime) -> Result<(), Fail> {
         ),
     ];
     expect_parts(&rt, page.as_slice(), &PARTS);
-    Ok(())
 }

@@ -1,5 +1,6 @@
 //! Pages of the worked session: rows that were worked out by hand.
 use super::script::{MATCHPOINTS, played};
+use crate::tests::{expect_eq, expect_parts};
 use arrayvec::ArrayString;
 use bridge_results::{Analysis, write_results, write_results_with};
 use bridge_session::Session;
@@ -7,54 +8,48 @@ use evening_draft::PairNames;
 use page_layout::Format;
 use std::alloc::Global;
 use std::process::Abort;
-use std::test::Fail;
 
 /// The page of a session.
-pub fn page_shown(session: &Session, alloc: Global, format: Format) -> Result<Vec<u8>, Fail> {
+pub fn page_shown(rt: &impl Abort, session: &Session, alloc: Global, format: Format) -> Vec<u8> {
     let mut page = Vec::new(alloc);
-    write_results(session, format, &mut page)?;
-    Ok(page)
+    let written = write_results(session, format, &mut page);
+    expect_eq(rt, written.is_ok(), true, "written");
+    page
 }
 
 /// The page of three rounds of a configuration.
-pub fn page_of(
-    rt: &impl Abort,
-    alloc: Global,
-    config: &str,
-    format: Format,
-) -> Result<Vec<u8>, Fail> {
-    page_with(rt, alloc, config, None, format)
+pub fn page_of(rt: &impl Abort, alloc: Global, config: &str, format: Format) -> Vec<u8> {
+    page_shown(rt, &played(rt, alloc, config), alloc, format)
 }
 
-fn page_with(
+/// The page with names and an analysis.
+pub fn page_with(
     rt: &impl Abort,
     alloc: Global,
-    config: &str,
     names: Option<&[PairNames]>,
+    analysis: &Analysis,
     format: Format,
-) -> Result<Vec<u8>, Fail> {
-    let session = played(rt, alloc, config)?;
-    if names.is_none() {
-        return page_shown(&session, alloc, format);
-    }
+) -> Vec<u8> {
+    let session = played(rt, alloc, MATCHPOINTS);
     let mut page = Vec::new(alloc);
+    let written = write_results_with(&session, names, analysis, format, &mut page);
+    expect_eq(rt, written.is_ok(), true, "written");
+    page
+}
+
+/// The page with the names of the six pairs.
+fn named_page(rt: &impl Abort, alloc: Global, format: Format) -> Vec<u8> {
+    let names = six_pairs();
     let analysis = Analysis {
         boards: &[],
         plays: &[],
     };
-    write_results_with(&session, names, &analysis, format, &mut page)?;
-    Ok(page)
-}
-
-/// Whether a page has that part.
-pub fn holds(page: &[u8], part: &str) -> bool {
-    let part = part.as_bytes();
-    !part.is_empty() && page.windows(part.len()).any(|found| found == part)
+    page_with(rt, alloc, Some(names.as_slice()), &analysis, format)
 }
 
 #[test]
-fn plain_text(rt: HostRuntime) -> Result<(), Fail> {
-    let page = page_of(&rt, rt.alloc(), MATCHPOINTS, Format::Plain)?;
+fn plain_text(rt: HostRuntime) {
+    let page = page_of(&rt, rt.alloc(), MATCHPOINTS, Format::Plain);
     static ROWS: [&str; 11] = [
         "Club-Night\nTown-Hall, 2026.03.14\nMatchpoints\nTables: 3, boards: 3, rounds: 3\n",
         "\nRanking, field 2\n",
@@ -68,10 +63,7 @@ fn plain_text(rt: HostRuntime) -> Result<(), Fail> {
         "\n      3      1  EW          2  4SX       E           8       -300        4.0\n",
         "\nTotal: 12.0 of 12.0\n",
     ];
-    for row in &ROWS {
-        assert!(&rt; holds(page.as_slice(), row), "{row}");
-    }
-    Ok(())
+    expect_parts(&rt, page.as_slice(), &ROWS);
 }
 
 /// Six pairs, the last with other names: of three signs that take two columns each, and with marks of HTML.
@@ -93,32 +85,22 @@ fn six_pairs() -> [PairNames; 6] {
 
 // Of the names of pair 6, 22 columns of 53 are taken.
 #[test]
-fn plain_pages_with_names(rt: HostRuntime) -> Result<(), Fail> {
+fn plain_pages_with_names(rt: HostRuntime) {
     static ROWS: [&str; 3] = [
         "      1      6  李小龍 and O'Brien <b>                                      12.0       12.0   100.00\n",
         "\nPair 6: 李小龍 and O'Brien <b>\n",
         "\nPair 1: A and B\n",
     ];
-    let names = six_pairs();
-    let names = Some(names.as_slice());
-    let page = page_with(&rt, rt.alloc(), MATCHPOINTS, names, Format::Plain)?;
-    for row in &ROWS {
-        assert!(&rt; holds(page.as_slice(), row), "{row}");
-    }
-    Ok(())
+    let page = named_page(&rt, rt.alloc(), Format::Plain);
+    expect_parts(&rt, page.as_slice(), &ROWS);
 }
 
 #[test]
-fn html_pages_with_names(rt: HostRuntime) -> Result<(), Fail> {
+fn html_pages_with_names(rt: HostRuntime) {
     static PARTS: [&str; 2] = [
         "<td>李小龍 and O&#39;Brien &lt;b&gt;</td>",
         "<h3>Pair 6: 李小龍 and O&#39;Brien &lt;b&gt;</h3>",
     ];
-    let names = six_pairs();
-    let names = Some(names.as_slice());
-    let page = page_with(&rt, rt.alloc(), MATCHPOINTS, names, Format::Html)?;
-    for part in &PARTS {
-        assert!(&rt; holds(page.as_slice(), part), "{part}");
-    }
-    Ok(())
+    let page = named_page(&rt, rt.alloc(), Format::Html);
+    expect_parts(&rt, page.as_slice(), &PARTS);
 }

@@ -1,4 +1,6 @@
 //! A worked session of three tables, three rounds and three boards, as its players and the director act.
+use super::games::{Game, ROUND_1, ROUND_2, ROUND_3, Turns};
+use crate::tests::expect_eq;
 use bridge_auction::Call;
 use bridge_cards::deal_text::read_hands;
 use bridge_cards::{BoardNumber, Card};
@@ -9,7 +11,6 @@ use bridge_session::{
 use std::alloc::Global;
 use std::process::Abort;
 use std::str::FromStr;
-use std::test::Fail;
 
 /// The director.
 pub const DIRECTOR: Key = Key(100);
@@ -32,7 +33,7 @@ pub const IMPS: &str = three_tables!("IMP");
 
 /// Takes an action, which is not refused.
 pub fn act(rt: &impl Abort, session: &mut Session, action: Action) {
-    assert_eq!(rt; session.step(&action), Ok(()));
+    expect_eq(rt, session.step(&action), Ok(()), action);
 }
 
 /// The board of that number.
@@ -55,7 +56,7 @@ pub fn play(rt: &impl Abort, round: u8, table: u8) -> PlayId {
 }
 
 /// The players of those keys call in turn.
-fn call(rt: &impl Abort, session: &mut Session, board: BoardNumber, calls: &[(u32, &str)]) {
+fn call(rt: &impl Abort, session: &mut Session, board: BoardNumber, calls: Turns) {
     for (at, (key, text)) in calls.iter().enumerate() {
         let action = Action::Call {
             key: Key(*key),
@@ -68,8 +69,7 @@ fn call(rt: &impl Abort, session: &mut Session, board: BoardNumber, calls: &[(u3
 }
 
 /// The players of those keys play cards in turn.
-fn cards(rt: &impl Abort, session: &mut Session, number: u8, cards: &[(u32, &str)]) {
-    let board = board(rt, number);
+fn cards(rt: &impl Abort, session: &mut Session, board: BoardNumber, cards: Turns) {
     for (at, (key, text)) in cards.iter().enumerate() {
         let action = Action::Card {
             key: Key(*key),
@@ -81,14 +81,8 @@ fn cards(rt: &impl Abort, session: &mut Session, number: u8, cards: &[(u32, &str
     }
 }
 
-/// A player claims so many tricks, to which both opponents agree.
-fn claim(
-    rt: &impl Abort,
-    session: &mut Session,
-    board: BoardNumber,
-    claim: (u32, u8),
-    opponents: [u32; 2],
-) {
+/// A player claims so many tricks.
+fn claim(rt: &impl Abort, session: &mut Session, board: BoardNumber, claim: (u32, u8)) {
     let claimed = Action::Claim {
         key: Key(claim.0),
         board,
@@ -96,14 +90,16 @@ fn claim(
         tricks: TrickCount::new(claim.1).expect(rt, "tricks"),
     };
     act(rt, session, claimed);
-    for opponent in opponents {
-        let agreed = Action::Agree {
-            key: Key(opponent),
-            board,
-            at: made(rt, 1),
-        };
-        act(rt, session, agreed);
-    }
+}
+
+/// An opponent agrees to the claim.
+fn agree(rt: &impl Abort, session: &mut Session, board: BoardNumber, opponent: u32) {
+    let agreed = Action::Agree {
+        key: Key(opponent),
+        board,
+        at: made(rt, 1),
+    };
+    act(rt, session, agreed);
 }
 
 /// The director deals a board, one suit in each hand: North has the spades.
@@ -118,15 +114,14 @@ fn deal(rt: &impl Abort, session: &mut Session, number: u8) {
 }
 
 /// A session of that configuration in which boards 1 to 3 are dealt.
-pub fn dealt(rt: &impl Abort, alloc: Global, config: &str) -> Result<Session, Fail> {
-    let config = read_config(config.as_bytes())
-        .ok()
-        .expect(rt, "a configuration");
-    let mut session = Session::new(alloc, config)?;
+pub fn dealt(rt: &impl Abort, alloc: Global, config: &str) -> Session {
+    let config = read_config(config.as_bytes()).ok();
+    let session = Session::new(alloc, config.expect(rt, "a configuration"));
+    let mut session = session.ok().expect(rt, "a session");
     for number in 1..4 {
         deal(rt, &mut session, number);
     }
-    Ok(session)
+    session
 }
 
 /// The director ends a round.
@@ -138,148 +133,15 @@ fn next(rt: &impl Abort, session: &mut Session, number: u8) {
     act(rt, session, action);
 }
 
-/// What the players of those keys call or play in turn.
-type Turns = &'static [(u32, &'static str)];
-
-/// How a board is played: the calls, the cards before the claim, by which key and of how many tricks it is, and by which keys it
-/// is agreed to.
-#[derive(Clone, Copy)]
-struct Game {
-    board: u8,
-    calls: Turns,
-    cards: Turns,
-    claim: (u32, u8),
-    opponents: [u32; 2],
-}
-
-/// Board 1: 1 makes 4H against 4, after four cards. Board 2: 2 makes 3NT against 5. Board 3: 6 makes 2H doubled against 3.
-static ROUND_1: [Game; 3] = [
-    Game {
-        board: 1,
-        calls: &[(11, "4H"), (41, "PASS"), (12, "PASS"), (42, "PASS")],
-        cards: &[(41, "HA"), (11, "D2"), (42, "C2"), (11, "S2")],
-        claim: (11, 10),
-        opponents: [41, 42],
-    },
-    Game {
-        board: 2,
-        calls: &[
-            (51, "PASS"),
-            (22, "3NT"),
-            (52, "PASS"),
-            (21, "PASS"),
-            (51, "PASS"),
-        ],
-        cards: &[],
-        claim: (22, 9),
-        opponents: [51, 52],
-    },
-    Game {
-        board: 3,
-        calls: &[
-            (32, "PASS"),
-            (62, "2H"),
-            (31, "X"),
-            (61, "PASS"),
-            (32, "PASS"),
-            (62, "PASS"),
-        ],
-        cards: &[],
-        claim: (62, 8),
-        opponents: [31, 32],
-    },
-];
-
-/// Board 2: 1 is one down in 3NT against 6. Board 3: 4 is one down in 2H doubled against 2. Board 1: 3 makes an overtrick in 4H
-/// against 5.
-static ROUND_2: [Game; 3] = [
-    Game {
-        board: 2,
-        calls: &[
-            (61, "PASS"),
-            (12, "3NT"),
-            (62, "PASS"),
-            (11, "PASS"),
-            (61, "PASS"),
-        ],
-        cards: &[],
-        claim: (12, 8),
-        opponents: [61, 62],
-    },
-    Game {
-        board: 3,
-        calls: &[
-            (22, "PASS"),
-            (42, "2H"),
-            (21, "X"),
-            (41, "PASS"),
-            (22, "PASS"),
-            (42, "PASS"),
-        ],
-        cards: &[],
-        claim: (42, 7),
-        opponents: [21, 22],
-    },
-    Game {
-        board: 1,
-        calls: &[(31, "4H"), (51, "PASS"), (32, "PASS"), (52, "PASS")],
-        cards: &[],
-        claim: (31, 11),
-        opponents: [51, 52],
-    },
-];
-
-/// Board 3: 1 makes 2S against 5. Board 1: 6 is two down in 4S doubled against 2. Board 2: 4 makes 1NT against 3.
-static ROUND_3: [Game; 3] = [
-    Game {
-        board: 3,
-        calls: &[
-            (12, "PASS"),
-            (52, "PASS"),
-            (11, "2S"),
-            (51, "PASS"),
-            (12, "PASS"),
-            (52, "PASS"),
-        ],
-        cards: &[],
-        claim: (11, 8),
-        opponents: [51, 52],
-    },
-    Game {
-        board: 1,
-        calls: &[
-            (21, "PASS"),
-            (61, "4S"),
-            (22, "X"),
-            (62, "PASS"),
-            (21, "PASS"),
-            (61, "PASS"),
-        ],
-        cards: &[],
-        claim: (61, 8),
-        opponents: [21, 22],
-    },
-    Game {
-        board: 2,
-        calls: &[(41, "1NT"), (32, "PASS"), (42, "PASS"), (31, "PASS")],
-        cards: &[],
-        claim: (41, 7),
-        opponents: [32, 31],
-    },
-];
-
 /// The boards of a round are played.
 fn games(rt: &impl Abort, session: &mut Session, games: &[Game]) {
     for game in games {
-        call(rt, session, board(rt, game.board), game.calls);
-        cards(rt, session, game.board, game.cards);
-        claim(
-            rt,
-            session,
-            board(rt, game.board),
-            game.claim,
-            game.opponents,
-        );
+        let board = board(rt, game.board);
+        call(rt, session, board, game.calls);
+        cards(rt, session, board, game.cards);
+        claim(rt, session, board, game.claim);
+        agree(rt, session, board, game.opponents[0]);
+        agree(rt, session, board, game.opponents[1]);
     }
 }
 
@@ -301,10 +163,10 @@ pub fn round_3(rt: &impl Abort, session: &mut Session) {
 }
 
 /// A session of three rounds of a configuration.
-pub fn played(rt: &impl Abort, alloc: Global, config: &str) -> Result<Session, Fail> {
-    let mut session = dealt(rt, alloc, config)?;
+pub fn played(rt: &impl Abort, alloc: Global, config: &str) -> Session {
+    let mut session = dealt(rt, alloc, config);
     round_1(rt, &mut session);
     round_2(rt, &mut session);
     round_3(rt, &mut session);
-    Ok(session)
+    session
 }

@@ -1,26 +1,23 @@
 //! Tables of the worked session: rows that were worked out by hand.
 use super::script::{IMPS, MATCHPOINTS, played};
+use crate::tests::{expect_eq, expect_parts, times};
 use bridge_results::{write_plays_table, write_rankings_table};
 use std::alloc::Global;
 use std::process::Abort;
-use std::test::Fail;
 
 /// Fails where a table has not so many rows, does not begin with the titles, or lacks one of the rows.
 fn expect_table(rt: &impl Abort, table: &[u8], count: usize, titles: &str, rows: &[&str]) {
-    let ends = table.windows(2).filter(|end| *end == b"\r\n".as_slice());
-    assert_eq!(rt; ends.count(), count);
-    assert!(rt; table.starts_with(titles.as_bytes()));
-    for row in rows {
-        let row = row.as_bytes();
-        assert!(rt; !row.is_empty() && table.windows(row.len()).any(|found| found == row));
-    }
+    expect_eq(rt, times(table, "\r\n"), count, titles);
+    expect_eq(rt, table.starts_with(titles.as_bytes()), true, titles);
+    expect_parts(rt, table, rows);
 }
 
 #[test]
-fn plays_as_values(rt: HostRuntime) -> Result<(), Fail> {
-    let session = played(&rt, rt.alloc(), MATCHPOINTS)?;
+fn plays_as_values(rt: HostRuntime) {
+    let session = played(&rt, rt.alloc(), MATCHPOINTS);
     let mut table = Vec::new(rt.alloc());
-    write_plays_table(&session, &mut table)?;
+    let written = write_plays_table(&session, &mut table);
+    expect_eq(&rt, written.is_ok(), true, "written");
     let titles =
         "board,round,table,ns,ew,contract,by,lead,tricks,score,ns_gain,ew_gain\r\n1,2,3,3,5,";
     static ROWS: [&str; 2] = [
@@ -28,24 +25,22 @@ fn plays_as_values(rt: HostRuntime) -> Result<(), Fail> {
         "\r\n1,3,2,2,6,4SX,E,,8,300,0.0,4.0\r\n",
     ];
     expect_table(&rt, table.as_slice(), 10, titles, &ROWS);
-    Ok(())
 }
 
 /// Fails where the table of the rankings of a configuration lacks this row, or has others than seven, below its titles.
-fn expect_rankings(rt: &impl Abort, alloc: Global, config: &str, row: &str) -> Result<(), Fail> {
+fn expect_rankings(rt: &impl Abort, alloc: Global, config: &str, row: &str) {
     let titles = "field,place,pair,first_player,second_player,score,available,percent\r\n1,1,";
-    let session = played(rt, alloc, config)?;
+    let session = played(rt, alloc, config);
     let mut table = Vec::new(alloc);
-    write_rankings_table(&session, &mut table)?;
+    let written = write_rankings_table(&session, &mut table);
+    expect_eq(rt, written.is_ok(), true, "written");
     expect_table(rt, table.as_slice(), 7, titles, &[row]);
-    Ok(())
 }
 
 #[test]
-fn rankings_as_values(rt: HostRuntime) -> Result<(), Fail> {
+fn rankings_as_values(rt: HostRuntime) {
     let alloc = rt.alloc();
     let row = "\r\n2,1,6,Kim,Lea,12.0,12.0,100.00\r\n";
-    expect_rankings(&rt, alloc, MATCHPOINTS, row)?;
-    expect_rankings(&rt, alloc, IMPS, "\r\n1,1,2,Cat,Dan,33,,\r\n")?;
-    Ok(())
+    expect_rankings(&rt, alloc, MATCHPOINTS, row);
+    expect_rankings(&rt, alloc, IMPS, "\r\n1,1,2,Cat,Dan,33,,\r\n");
 }
