@@ -12,7 +12,7 @@ pub const COUNT: usize = 37;
 pub const QUESTION: (&[u8], &[u8]) = (b"SOLVE 100 1 1 1 28\n", b"OK 6 0\n");
 
 fn config() -> Outcome<Config> {
-    read_config(TWO_TABLES.as_bytes()).map_err(|_| "the configuration")
+    read_config(TWO_TABLES.as_bytes()).or(Err("the configuration"))
 }
 
 /// The opening session.
@@ -21,7 +21,7 @@ pub fn opening(alloc: Global, refusals: &mut Refusals) -> Outcome<Session> {
         Ok(session) => Ok(session),
         Err(_) => {
             refusals.note("a session");
-            Session::new(alloc, config()?).map_err(|_| "a session, once more")
+            Session::new(alloc, config()?).or(Err("a session, once more"))
         }
     }
 }

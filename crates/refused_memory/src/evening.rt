@@ -3,7 +3,7 @@ use super::club::{COUNT, QUESTION, opening};
 use super::outcome::{Outcome, Refusals, room};
 use bridge_endings::Cache;
 use bridge_session::Session;
-use sector_disk::{MemoryDisk, SectorDisk};
+use sector_disk::{DiskFault, MemoryDisk, SectorDisk};
 use session_store::{Store, StoreFault, format, is_same_state};
 use std::alloc::Global;
 use table_server::{Asked, asked_by, serve};
@@ -14,18 +14,23 @@ type ClubStore = Store<MemoryDisk, Session>;
 /// A disk with the opening session. It was never written but where its snapshot is: what is written next takes memory.
 pub fn formatted(alloc: Global) -> Outcome<MemoryDisk> {
     let session = opening(alloc, &mut Refusals::default())?;
-    let disk = MemoryDisk::new(alloc, 2048).map_err(|_| "a disk")?;
-    let mut made = format(disk, &session).map_err(|_| "format")?;
-    let mut disk = MemoryDisk::new(alloc, 2048).map_err(|_| "a disk")?;
+    let disk = MemoryDisk::new(alloc, 2048).or(Err("a disk"))?;
+    let mut made = format(disk, &session).or(Err("format"))?;
+    let mut disk = MemoryDisk::new(alloc, 2048).or(Err("a disk"))?;
+    copy(&mut made, &mut disk).or(Err("a copy"))?;
+    Ok(disk)
+}
+
+/// Copies the sectors of the snapshot, and syncs them.
+fn copy(made: &mut MemoryDisk, disk: &mut MemoryDisk) -> Result<(), DiskFault> {
     let mut bytes = [0; 512];
     for sector in 0..48 {
         if sector < made.count() && sector < disk.count() {
-            made.read(sector, &mut bytes).map_err(|_| "a read")?;
-            disk.write(sector, &bytes).map_err(|_| "a write")?;
+            made.read(sector, &mut bytes)?;
+            disk.write(sector, &bytes)?;
         }
     }
-    disk.sync().map_err(|_| "a sync")?;
-    Ok(disk)
+    disk.sync()
 }
 
 /// Whatever is refused, no action that was answered is lost, and once all lines were sent again the session is theirs.
@@ -47,13 +52,13 @@ pub fn play(alloc: Global, disk: MemoryDisk, refusals: &mut Refusals) -> Outcome
 }
 
 /// The sectors that a store of this session writes: its snapshots and the first of its journal.
-const WRITTEN: [u32; 3] = [0, 512, 1024];
+static WRITTEN: [u32; 3] = [0, 512, 1024];
 
 /// The sum of their bytes, each with its place.
 fn weight(disk: &mut MemoryDisk) -> u64 {
     let mut sum: u64 = 0;
     let mut bytes = [0; 512];
-    for first in WRITTEN {
+    for first in &WRITTEN {
         for at in 0..48 {
             let sector = first.saturating_add(at);
             if sector < disk.count() && disk.read(sector, &mut bytes).is_ok() {
@@ -78,7 +83,7 @@ fn opened(alloc: Global, mut disk: MemoryDisk, refusals: &mut Refusals) -> Outco
                 _ => return Err("a fault of an opening"),
             }
             disk.crash(&[]);
-            Store::open(alloc, disk).map_err(|_| "an opening, once more")
+            Store::open(alloc, disk).or(Err("an opening, once more"))
         }
     }
 }
@@ -94,21 +99,27 @@ fn opened_after_cut(
     opened(alloc, disk, refusals)
 }
 
-/// Serves the lines; how many were answered before a fault of the disk. Those of an earlier run are refused.
-fn serve_lines(alloc: Global, store: &mut ClubStore, refusals: &mut Refusals) -> Outcome<usize> {
-    let mut written = room(alloc, refusals)?;
-    let mut lines = SEVEN_TRICKS.as_bytes();
-    let _ = store.confirm();
-    let served = serve(store, None, &mut lines, &mut written).map_err(|_| "a fault of a stream")?;
+/// How many replies stand before a fault of the disk.
+fn confirmed_in(replies: &str) -> usize {
     let mut confirmed: usize = 0;
-    for reply in written.as_slice().split(|byte| *byte == b'\n') {
-        if reply == b"ERR 40 Disk".as_slice() {
+    for reply in replies.lines() {
+        if reply == "ERR 40 Disk" {
             break;
         }
         if !reply.is_empty() {
             confirmed = confirmed.saturating_add(1);
         }
     }
+    confirmed
+}
+
+/// Serves the lines; how many were answered before a fault of the disk. Those of an earlier run are refused.
+fn serve_lines(alloc: Global, store: &mut ClubStore, refusals: &mut Refusals) -> Outcome<usize> {
+    let mut written = room(alloc, refusals)?;
+    let mut lines = SEVEN_TRICKS.as_bytes();
+    let _ = store.confirm();
+    let served = serve(store, None, &mut lines, &mut written).or(Err("a fault of a stream"))?;
+    let confirmed = confirmed_in(str::from_utf8(written.as_slice()).unwrap_or(""));
     if served.failed {
         refusals.note("a call of serve");
         Ok(confirmed)
@@ -128,7 +139,7 @@ fn solve_one(alloc: Global, store: &mut ClubStore, refusals: &mut Refusals) -> O
     let (mut line, reply) = QUESTION;
     let mut written = room(alloc, refusals)?;
     let _ = store.confirm();
-    serve(store, cache.as_mut(), &mut line, &mut written).map_err(|_| "a fault of a stream")?;
+    serve(store, cache.as_mut(), &mut line, &mut written).or(Err("a fault of a stream"))?;
     if written.as_slice() == reply {
         Ok(())
     } else {
@@ -149,7 +160,7 @@ fn is_after_some(
     for line in SEVEN_TRICKS.lines() {
         is_found = is_found || taken >= least && is_same_state(&twin, session);
         if let Asked::Change(action) = asked_by(line.as_bytes()) {
-            twin.step(&action).map_err(|_| "a line is refused")?;
+            twin.step(&action).or(Err("a line is refused"))?;
         }
         taken = taken.saturating_add(1);
     }

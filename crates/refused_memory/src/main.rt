@@ -55,11 +55,19 @@ fn run(alloc: Global, name: &str, count: usize, refusals: &mut Refusals) -> Outc
     }
 }
 
+/// The word of that number, which is empty where there is none.
+fn word_of(words: &[String], number: usize) -> &str {
+    match words.get(number) {
+        Some(word) => word.as_str(),
+        None => "",
+    }
+}
+
 fn main(rt: HostRuntime) -> Result<(), Error> {
     println!(rt; "begun")?;
     let words: Vec<String> = env::args(&rt)?.skip(1).collect(rt.alloc())?;
-    let name = words.first().map_or("", |word| word.as_str());
-    let count = words.get(1).map_or(0, |word| word.parse().unwrap_or(0));
+    let name = word_of(&words, 0);
+    let count = word_of(&words, 1).parse().unwrap_or(0);
     let mut refusals = Refusals::default();
     let outcome = run(rt.alloc(), name, count, &mut refusals);
     for what in refusals.all() {

@@ -29,7 +29,7 @@ pub fn room(alloc: Global, refusals: &mut Refusals) -> Outcome<Vec<u8>> {
         Ok(room) => Ok(room),
         Err(_) => {
             refusals.note("room for what is written");
-            Vec::with_capacity(alloc, 4096).map_err(|_| "room, once more")
+            Vec::with_capacity(alloc, 4096).or(Err("room, once more"))
         }
     }
 }

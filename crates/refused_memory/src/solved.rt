@@ -5,7 +5,7 @@ use bridge_endings::{Cache, Ending, solve};
 use std::alloc::Global;
 
 /// Hands, a trump suit, and how many tricks North and South take where South leads.
-const WORTHS: [(&[u8], Option<Suit>, u8); 5] = [
+static WORTHS: [(&[u8], Option<Suit>, u8); 5] = [
     (b"N:AQ... KJ... 54... 32...", None, 1),
     (b"N:AQ... 32... 54... KJ...", None, 2),
     (b"N:A... 2... .2.. .3..", None, 0),
@@ -15,18 +15,26 @@ const WORTHS: [(&[u8], Option<Suit>, u8); 5] = [
 
 /// The answers are the same with a cache of one ending, of all, and without.
 pub fn solve_all(alloc: Global, refusals: &mut Refusals) -> Outcome {
-    for capacity in [1, 16] {
-        let mut cache = Cache::new(alloc, capacity).ok();
-        if cache.is_none() {
-            refusals.note("a cache");
-        }
-        for (text, trump, worth) in WORTHS {
-            let hands = read_hands(text).ok_or("hands")?;
-            let ending = Ending::new(hands, trump, Seat::South).map_err(|_| "an ending")?;
-            if solve(&ending, cache.as_mut()) != worth || solve(&ending, None) != worth {
-                return Err("the worth of an ending");
-            }
+    solve_with(alloc, 1, refusals)?;
+    solve_with(alloc, 16, refusals)
+}
+
+/// The answers are the same with a cache of so many endings.
+fn solve_with(alloc: Global, capacity: usize, refusals: &mut Refusals) -> Outcome {
+    let mut cache = Cache::new(alloc, capacity).ok();
+    if cache.is_none() {
+        refusals.note("a cache");
+    }
+    for (text, trump, worth) in &WORTHS {
+        let ending = ending_of(text, *trump)?;
+        if solve(&ending, cache.as_mut()) != *worth || solve(&ending, None) != *worth {
+            return Err("the worth of an ending");
         }
     }
     Ok(())
+}
+
+fn ending_of(text: &[u8], trump: Option<Suit>) -> Outcome<Ending> {
+    let hands = read_hands(text).ok_or("hands")?;
+    Ending::new(hands, trump, Seat::South).or(Err("an ending"))
 }
