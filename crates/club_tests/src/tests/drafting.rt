@@ -120,8 +120,12 @@ fn written_by<
 
 /// Whether a text has a part.
 fn holds(text: &[u8], part: &str) -> bool {
-    let part = part.as_bytes();
-    !part.is_empty() && text.windows(part.len()).any(|found| found == part)
+    for index in 0..text.len() {
+        if !part.is_empty() && text[index..].starts_with(part.as_bytes()) {
+            return true;
+        }
+    }
+    false
 }
 
 /// What is said where a list has other pairs than the configuration.
@@ -220,6 +224,9 @@ fn expect_other_pairs<
     Ok(())
 }
 
+/// The list, and what is made.
+static MADE: [&str; 4] = [LIST, DISK, CONFIG, SLIPS];
+
 #[test]
 fn an_evening_is_made_and_gone_on_with(rt: HostRuntime) -> Result<(), Fail> {
     fs::write(&rt, LIST, NAMES)?;
@@ -231,8 +238,8 @@ fn an_evening_is_made_and_gone_on_with(rt: HostRuntime) -> Result<(), Fail> {
     expect_parts(&rt, slips.as_slice(), &SLIP_PARTS);
     expect_gone_on_with(&rt, rt.alloc())?;
     expect_other_pairs(&rt, rt.alloc())?;
-    for file in [LIST, DISK, CONFIG, SLIPS] {
-        fs::remove_file(&rt, file)?;
+    for file in &MADE {
+        fs::remove_file(&rt, *file)?;
     }
     expect_run(&rt, rt.alloc(), &RESULTS_WORDS, "", (3, "", UNHEARD));
     Ok(())

@@ -68,6 +68,10 @@ fn a_bad_configuration_leaves_the_disk(rt: HostRuntime) -> Result<(), Fail> {
     Ok(())
 }
 
+static OVER_A_DISK: [&str; 3] = ["rank", "pbn", "script"];
+
+static OVER_CONNECTIONS: [&str; 2] = ["serve", "web"];
+
 /// Runs each of the commands that open a session over this disk, and expects the status and the line.
 fn expect_refused<
     T: Abort
@@ -77,12 +81,13 @@ fn expect_refused<
         + RandomSource
         + Alarm,
 >(rt: &T, alloc: Global, disk: &str, status: u8, line: &str) {
-    for command in ["rank", "pbn", "script"] {
-        expect_run(rt, alloc, &[command, disk], "SYNC\n", (status, "", line));
+    let due = (status, "", line);
+    for command in &OVER_A_DISK {
+        expect_run(rt, alloc, &[*command, disk], "SYNC\n", due);
     }
-    for command in ["serve", "web"] {
-        let words = [command, disk, "4000", "1"];
-        expect_run(rt, alloc, &words, "SYNC\n", (status, "", line));
+    for command in &OVER_CONNECTIONS {
+        let words = [*command, disk, "4000", "1"];
+        expect_run(rt, alloc, &words, "SYNC\n", due);
     }
 }
 
@@ -94,8 +99,9 @@ fn a_disk_without_a_session_is_refused(rt: HostRuntime) -> Result<(), Fail> {
     expect_refused(&rt, rt.alloc(), disk, 4, "disk too small\n");
     fs::write(&rt, disk, vec![in rt.alloc(); b'A'; 1_048_576]?)?;
     expect_refused(&rt, rt.alloc(), disk, 4, "not formatted\n");
-    let others = fs::read(&rt, disk)?.iter().any(|byte| *byte != b'A');
-    expect_eq(&rt, others, false, "a file that is no disk");
+    for byte in fs::read(&rt, disk)?.as_slice() {
+        expect_eq(&rt, *byte, b'A', "a file that is no disk");
+    }
     fs::remove_file(&rt, disk)?;
     Ok(())
 }
@@ -103,8 +109,10 @@ fn a_disk_without_a_session_is_refused(rt: HostRuntime) -> Result<(), Fail> {
 /// Gives so many bytes of a file, from one on, this value.
 fn change(rt: &HostRuntime, file: &str, from: usize, count: usize, value: u8) -> Result<(), Fail> {
     let mut bytes = fs::read(rt, file)?;
-    for byte in bytes.iter_mut().skip(from).take(count) {
-        *byte = value;
+    for (index, byte) in bytes.iter_mut().enumerate() {
+        if index >= from && index - from < count {
+            *byte = value;
+        }
     }
     fs::write(rt, file, bytes)?;
     Ok(())
