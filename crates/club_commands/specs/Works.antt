@@ -18,8 +18,8 @@ use Rattle.club_commands.specs.declared.work.Work.{Work}
 use Rattle.club_commands.specs.declared.work.Work.TheVariants.{Serve, Tell, Results, Export, Check, Format}
 use Rattle.club_commands.specs.Ended.{Ended, Writes}
 use Rattle.club_commands.specs.ConfigFile.{OfFile, Begins}
-use Rattle.club_commands.specs.Results.{Tells, ReadsAnd, ReadsAndTells, TellsDisk}
-use Rattle.club_commands.specs.Exports.{IsExportText}
+use Rattle.club_commands.specs.Results.{ReadsAnd, ReadsAndTells, TellsDisk}
+use Rattle.club_commands.specs.Exports.{TellsExport}
 use Rattle.club_commands.specs.Checked.{Checks}
 use Rattle.club_commands.specs.Serving.{Scripts, ServesPort}
 use Rattle.club_commands.specs.Web.{ShowsListed}
@@ -83,7 +83,7 @@ module _ (input output : Stream) (ended : Ended) where
   Works (Serve service) d left = ServesDisk service d left
   Works (Tell told) d left = TellsDisk told output ended d left × IsUntouched input
   Works (Results page names) d left = ReadsAndTells page names file_disk output ended d left × IsUntouched input
-  Works (Export rankings) d left = ReadsAnd (Tells (IsExportText rankings)) file_disk output ended d left × IsUntouched input
+  Works (Export asked) d left = ReadsAnd (TellsExport asked) file_disk output ended d left × IsUntouched input
   Works Check d left = Checks file_disk d left output ended × IsUntouched input
   Works (Format session) d left = Formats d left session.now output ended × IsUntouched input
 

@@ -3,14 +3,18 @@ ghost use Rattle.line_text.specs.Streams.{stream};
 ghost use Rattle.sector_disk.specs.File.{file_disk};
 ghost use Rattle.bridge_results.specs.TablesText.{plays_table, IsRankingsTable};
 ghost use Rattle.club_commands.specs.Ended.{Writes};
-ghost use Rattle.club_commands.specs.Exports.{IsExportText};
+ghost use Rattle.club_commands.specs.Exports.{IsValuesText, TellsObject, TellsExport};
 ghost use Rattle.club_commands.specs.Results.{Tells, ReadsAnd};
 
 use crate::fault::RunFault;
 use bridge_results::{write_plays_table, write_rankings_table};
 use bridge_session::Session;
 use club_disk::{ClubDisk, Left, read_disk};
+use command_line::ExportAsked;
+use line_text::write_text;
+use results_object::object_text;
 use sector_disk::SectorDisk;
+use session_store::StoreFault;
 use std::alloc::Global;
 use std::io::Write;
 use table_server::ServeFault;
@@ -33,8 +37,8 @@ fn write_rankings<W: Write>(session: &Session, output: &mut W) -> Result<(), Run
 }
 
 /// Writes its rankings or its plays.
-fn write_export<W: Write>(session: &Session, rankings: bool, output: &mut W) -> Result<(), RunFault>
-    ensures { Tells (IsExportText rankings) session.now (stream W.contents output.old output.new) result }
+fn write_values<W: Write>(session: &Session, rankings: bool, output: &mut W) -> Result<(), RunFault>
+    ensures { Tells (IsValuesText rankings) session.now (stream W.contents output.old output.new) result }
 {
     if rankings {
         write_rankings(session, output)
@@ -43,17 +47,50 @@ fn write_export<W: Write>(session: &Session, rankings: bool, output: &mut W) -> 
     }
 }
 
+/// Writes a text.
+fn write_whole<W: Write>(text: &str, output: &mut W) -> Result<(), RunFault>
+    ensures { Writes (stream W.contents output.old output.new) text.now result }
+{
+    write_text(output, text.as_bytes()).map_err(|_| RunFault::Stream(ServeFault::Write))
+}
+
+/// Writes it as one object, unless memory is refused.
+fn write_object<W: Write>(alloc: Global, session: &Session, output: &mut W) -> Result<(), RunFault>
+    ensures { TellsObject session.now (stream W.contents output.old output.new) result }
+{
+    match object_text(alloc, session) {
+        Ok(text) => write_whole(text.as_str(), output),
+        Err(_) => Err(RunFault::Store(StoreFault::NoMemory)),
+    }
+}
+
+/// Writes what is asked for.
+fn write_export<W: Write>(
+    alloc: Global,
+    session: &Session,
+    asked: ExportAsked,
+    output: &mut W,
+) -> Result<(), RunFault>
+    ensures { TellsExport asked session.now (stream W.contents output.old output.new) result }
+{
+    if asked.json {
+        write_object(alloc, session, output)
+    } else {
+        write_values(session, asked.rankings, output)
+    }
+}
+
 /// Reads the session that a disk holds, to which nothing is written, and exports it.
 fn export_disk<D: SectorDisk, W: Write>(
     alloc: Global,
-    rankings: bool,
+    asked: ExportAsked,
     disk: &mut D,
     output: &mut W,
 ) -> Result<(), RunFault>
-    ensures { ReadsAnd (Tells (IsExportText rankings)) D.disk (stream W.contents output.old output.new) result disk.old disk.new }
+    ensures { ReadsAnd (TellsExport asked) D.disk (stream W.contents output.old output.new) result disk.old disk.new }
 {
     match read_disk(alloc, disk) {
-        Ok(session) => write_export(&session, rankings, output),
+        Ok(session) => write_export(alloc, &session, asked, output),
         Err(cause) => Err(RunFault::Store(cause)),
     }
 }
@@ -61,13 +98,13 @@ fn export_disk<D: SectorDisk, W: Write>(
 /// The same, and hands the disk out.
 pub fn export_over<W: Write>(
     alloc: Global,
-    rankings: bool,
+    asked: ExportAsked,
     disk: ClubDisk,
     output: &mut W,
 ) -> Left<ClubDisk, RunFault>
-    ensures { ReadsAnd (Tells (IsExportText rankings)) file_disk (stream W.contents output.old output.new) result.ended disk result.disk }
+    ensures { ReadsAnd (TellsExport asked) file_disk (stream W.contents output.old output.new) result.ended disk result.disk }
 {
     let mut disk = disk;
-    let ended = export_disk(alloc, rankings, &mut disk, output);
+    let ended = export_disk(alloc, asked, &mut disk, output);
     Left { disk, ended }
 }

@@ -32,7 +32,7 @@ fn access_of(work: &Work<'_>) -> Access
         Work::Serve(_) => Access::Write,
         Work::Tell(_) => Access::Write,
         Work::Results { .. } => Access::Read,
-        Work::Export { .. } => Access::Read,
+        Work::Export(_) => Access::Read,
         Work::Check => Access::Read,
         Work::Format(_) => Access::Make,
     }
@@ -58,7 +58,7 @@ fn do_work<S: Host, R: Read, W: Write>(
             let progress = Progress::on(rt.errors());
             results_over(alloc, progress, page, names, disk, output)
         }
-        Work::Export { rankings } => export_over(alloc, rankings, disk, output),
+        Work::Export(asked) => export_over(alloc, asked, disk, output),
         Work::Check => check_over(alloc, disk, output),
         Work::Format(session) => format_disk(disk, session, output),
     }

@@ -15,7 +15,7 @@ use crate::listed::run_listed;
 use crate::machine::Machine;
 use crate::on_disk::run_over;
 use crate::work::{Listed, Misfit, Service, Shown, Told, Work};
-use command_line::{PageAsked, WebWords};
+use command_line::{ExportAsked, PageAsked, WebWords};
 use std::alloc::Global;
 use std::io::{Read, Write};
 use table_pages::PageTexts;
@@ -141,19 +141,19 @@ pub fn write_page<S: Machine, R: Read, W: Write>(
     )
 }
 
-/// Reads it, and writes its rankings or its plays as comma-separated values.
+/// Reads it, and writes it for other programs.
 pub fn export<S: Machine, R: Read, W: Write>(
     rt: &S,
     alloc: Global,
     disk: &str,
-    rankings: bool,
+    asked: ExportAsked,
     input: &mut R,
     output: &mut W,
 ) -> Result<(), RunFault>
     ensures { HasWorked (stream R.remaining input.old input.new) (stream W.contents output.old output.new) result
-        (Export rankings) }
+        (Export asked) }
 {
-    run_over(rt, alloc, disk, &Work::Export { rankings }, input, output)
+    run_over(rt, alloc, disk, &Work::Export(asked), input, output)
 }
 
 /// Opens the session that the disk in a file holds, and answers lines over it.

@@ -127,7 +127,7 @@ fn do_command<S: Machine, R: Read, W: Write>(
         Command::Results { disk, page, names } => write_page(
             rt, alloc, disk, page, names, input, output,
         ),
-        Command::Export { disk, rankings } => export(rt, alloc, disk, rankings, input, output),
+        Command::Export { disk, asked } => export(rt, alloc, disk, asked, input, output),
         Command::Check { disk, copy } => run_check(rt, alloc, disk, copy, input, output),
         Command::Plan { config, names } => make_plan(rt, config, names, output),
         Command::Draft { names, wishes } => make_draft(rt, names, &wishes, output),

@@ -3,7 +3,7 @@ ghost use Rattle.std.specs.Prelude.{◌≡◌};
 ghost use Rattle.club_commands.specs.Works.{work_with};
 
 use bridge_session::Session;
-use command_line::{PageAsked, WebHost};
+use command_line::{ExportAsked, PageAsked, WebHost};
 use evening_draft::PairNames;
 use table_pages::PageTexts;
 use table_server::LineSet;
@@ -123,11 +123,8 @@ pub enum Work<'a> {
         /// The names that are shown, in place of the configuration's.
         names: Option<&'a [PairNames]>,
     },
-    /// Its session is read, and written as comma-separated values.
-    Export {
-        /// Whether these are the rankings, and not the plays.
-        rankings: bool,
-    },
+    /// Its session is read, and written for other programs.
+    Export(ExportAsked),
     /// What it holds is said.
     Check,
     /// It is made to hold this session.

@@ -132,7 +132,7 @@ fn words_of(alloc: Global, text: &str) -> Result<Vec<&str>, AllocError> {
 
 /// Each command with its words. Numbers are taken from the least to the most, a sign and zeros before them too, and the
 /// options before, between and behind the other words.
-static COMMANDS: [&str; 36] = [
+static COMMANDS: [&str; 37] = [
     "auction 1",
     "auction 36",
     "auction +7",
@@ -168,6 +168,7 @@ static COMMANDS: [&str; 36] = [
     "makeable deals.pbn --pbn",
     "export club.disk",
     "export club.disk --rankings",
+    "export --json club.disk",
     "version",
 ];
 

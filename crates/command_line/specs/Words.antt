@@ -236,9 +236,13 @@ makeable_app = with_rule (with_rule (new_app (codes "makeable")) file_rule) pbn_
 abbrev pub rankings_rule : Rule
 rankings_rule = flag_rule (codes "rankings")
 
--- the command `export DISK`, with that flag or without
+-- the flag `--json`
+abbrev pub json_rule : Rule
+json_rule = flag_rule (codes "json")
+
+-- the command `export DISK`, with those flags or without
 abbrev pub export_app : App
-export_app = with_rule (disk_app (codes "export")) rankings_rule
+export_app = with_rule (with_rule (disk_app (codes "export")) rankings_rule) json_rule
 
 -- the argument DISK2
 abbrev pub second_disk_rule : Rule
@@ -340,7 +344,8 @@ HasWords rows (Draft names wishes) = HasText rows (codes "NAMES") names.now × H
 HasWords rows (Slips config slips) = HasText rows (codes "CONFIG") config.now × HasSlips rows slips
 HasWords rows (Evening words) = HasEvening rows words
 HasWords rows (Makeable file pbn) = HasText rows (codes "FILE") file.now × HasFlag rows (codes "pbn") pbn
-HasWords rows (Export disk rankings) = HasText rows (codes "DISK") disk.now × HasFlag rows (codes "rankings") rankings
+HasWords rows (Export disk asked) = HasText rows (codes "DISK") disk.now × HasFlag rows (codes "rankings") asked.rankings
+    × HasFlag rows (codes "json") asked.json
 HasWords rows (Copy disk copy) = HasText rows (codes "DISK") disk.now × HasText rows (codes "DISK2") copy.now
 HasWords rows Version = Unit {0}
 
@@ -361,7 +366,7 @@ name_of (Draft names wishes) = codes "draft"
 name_of (Slips config slips) = codes "slips"
 name_of (Evening words) = codes "evening"
 name_of (Makeable file pbn) = codes "makeable"
-name_of (Export disk rankings) = codes "export"
+name_of (Export disk asked) = codes "export"
 name_of (Copy disk copy) = codes "copy"
 name_of Version = codes "version"
 

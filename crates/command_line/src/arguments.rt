@@ -1,5 +1,5 @@
 //! The arguments of the commands, as they are declared to clap.
-ghost use Rattle.command_line.specs.Words.{IsRuled, required_rule, number_rule, flag_rule, option_rule, default_rule, board_rule, disk_rule, other_disk_rule, second_disk_rule, config_rule, file_rule, port_rule, count_rule, minutes_rule, address_rule, name_rule, open_boards_rule, copy_rule, html_rule, no_analysis_rule, rankings_rule, pbn_rule};
+ghost use Rattle.command_line.specs.Words.{IsRuled, required_rule, number_rule, flag_rule, option_rule, default_rule, board_rule, disk_rule, other_disk_rule, second_disk_rule, config_rule, file_rule, port_rule, count_rule, minutes_rule, address_rule, name_rule, open_boards_rule, copy_rule, html_rule, no_analysis_rule, rankings_rule, json_rule, pbn_rule};
 
 use clap::builder::ValueParser;
 use clap::{Arg, ArgAction};
@@ -97,6 +97,13 @@ pub fn rankings_argument<'a>(alloc: Global) -> Arg<'a>
     ensures { IsRuled rankings_rule result }
 {
     flag(alloc, "rankings", "The rankings in place of the plays")
+}
+
+/// The flag `--json`.
+pub fn json_argument<'a>(alloc: Global) -> Arg<'a>
+    ensures { IsRuled json_rule result }
+{
+    flag(alloc, "json", "All the results as one object of JSON")
 }
 
 /// The flag `--pbn`.

@@ -111,12 +111,13 @@ pub enum Command<'a> {
         /// Whether `--pbn` is among the words.
         pbn: bool,
     },
-    /// `export DISK`: the plays of the session that a disk holds, or with `--rankings` its rankings, as comma-separated values.
+    /// `export DISK`: the plays of the session that a disk holds, or with `--rankings` its rankings, as comma-separated values; or with
+    /// `--json` all its results as one object of JSON.
     Export {
         /// DISK, the name of the disk's file.
         disk: &'a str,
-        /// Whether `--rankings` is among the words.
-        rankings: bool,
+        /// What is printed.
+        asked: ExportAsked,
     },
     /// `copy DISK DISK2`: a new disk for the session that a disk holds.
     Copy {
@@ -127,6 +128,15 @@ pub enum Command<'a> {
     },
     /// `version`: the program's name, its version, and the kit that proved it.
     Version,
+}
+
+/// What `export` prints.
+#[derive(Clone, Copy, Debug, PartialEq, Eq)]
+pub struct ExportAsked {
+    /// Whether `--rankings` is among the words.
+    pub rankings: bool,
+    /// Whether `--json` is.
+    pub json: bool,
 }
 
 /// Where the pages of `web` are shown, by which name, and how they begin.

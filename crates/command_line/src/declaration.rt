@@ -5,7 +5,7 @@ ghost use Rattle.command_line.specs.Words.{IsDeclared, auction_app, format_app, 
 
 use crate::arguments::{
     address_argument, board_argument, config_argument, copy_argument, count_argument,
-    disk_argument, file_argument, html_argument, minutes_argument, name_argument,
+    disk_argument, file_argument, html_argument, json_argument, minutes_argument, name_argument,
     no_analysis_argument, open_boards_argument, other_disk_argument, pbn_argument, port_argument,
     rankings_argument, second_disk_argument,
 };
@@ -226,17 +226,18 @@ fn makeable_command<'a>(alloc: Global) -> Declared<'a>
     .argument(pbn_argument(alloc))
 }
 
-/// The command `export DISK`, or `export DISK --rankings`.
+/// The command `export DISK`, with `--rankings`, with `--json`, or with neither.
 fn export_command<'a>(alloc: Global) -> Declared<'a>
     ensures { IsDeclared export_app result }
 {
     Declared::new(
         alloc,
         "export",
-        "Prints the plays of the session on a disk as comma-separated values",
+        "Prints the plays of the session on a disk as comma-separated values, or all as JSON",
     )
     .argument(disk_argument(alloc))
     .argument(rankings_argument(alloc))
+    .argument(json_argument(alloc))
 }
 
 /// The command `version`.

@@ -16,6 +16,7 @@ mod evening_read;
 mod read;
 
 pub use command::{
-    Command, DraftWords, EveningWords, PageAsked, SlipWords, WebHost, WebWords, WordsFault,
+    Command, DraftWords, EveningWords, ExportAsked, PageAsked, SlipWords, WebHost, WebWords,
+    WordsFault,
 };
 pub use read::read_words;

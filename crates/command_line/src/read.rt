@@ -3,7 +3,7 @@ ghost use Rattle.std.specs.Prelude.{IfOk, IfErr, IfSome, codes, map};
 ghost use Rattle.clap.specs.Words.{rows_of, found_of, subcommand_rows_of};
 ghost use Rattle.command_line.specs.Words.{HasNumber, HasFlag, HasOption, HasHost, HasPages, IsCommand, IsNamed, AsksCommand, IsRefusedBy};
 
-use crate::command::{Command, PageAsked, WebHost, WebWords, WordsFault};
+use crate::command::{Command, ExportAsked, PageAsked, WebHost, WebWords, WordsFault};
 use crate::declaration::club_command;
 use crate::evening_read::{draft_of, evening_of, slips_of};
 use bridge_cards::BoardNumber;
@@ -214,13 +214,15 @@ pub fn has_flag(found: &ArgMatches<'_>, name: &str) -> bool
     found.get_flag(name)
 }
 
-/// The command `export` with its disk, and whether it asks for rankings.
+/// The command `export` with its disk, and whether it asks for rankings or for JSON.
 fn export_of<'a>(found: &ArgMatches<'a>) -> Option<Command<'a>>
     ensures { IfSome result (IsNamed (codes "export") (rows_of (found_of found.now))) }
 {
     let disk = found.get_str("DISK")?;
     let rankings = has_flag(found, "rankings");
-    Some(Command::Export { disk, rankings })
+    let json = has_flag(found, "json");
+    let asked = ExportAsked { rankings, json };
+    Some(Command::Export { disk, asked })
 }
 
 /// The command `check` with its disk, and with a second one or none.

@@ -3,4 +3,5 @@ use Rattle.command_line.proofs.declaration.export_command.Goals as goal
 pub returns : goal.returns
 returns c =
     let with_disk = c.argument.ensures _ _ c.new.ensures c.disk_argument.ensures in
-    c.argument-2.ensures _ _ with_disk c.rankings_argument.ensures
+    let with_rankings = c.argument-2.ensures _ _ with_disk c.rankings_argument.ensures in
+    c.argument-3.ensures _ _ with_rankings c.json_argument.ensures

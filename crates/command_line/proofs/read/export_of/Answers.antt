@@ -9,5 +9,6 @@ returns c = (
   (
     text_given (λ (s : Bor (List ℕ)). s.now) c.get_str.result c.in_ok-disk.disk (found_of c.args.found.now) (codes "DISK") c.get_str.ensures c.in_ok-disk.was,
     c.has_flag-rankings.ensures,
+    c.has_flag-json.ensures,
   ),
 )
