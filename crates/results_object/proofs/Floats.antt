@@ -7,7 +7,6 @@ use Rattle.line_text.specs.Decimals.{tenths_text}
 use Rattle.bridge_cards.specs.Board.{vulnerability_on}
 use Rattle.bridge_cards.specs.Card.{card_text}
 use Rattle.bridge_cards.specs.Vulnerability.{vulnerability_text}
-use Rattle.bridge_auction.specs.declared.call.Call.{Call}
 use Rattle.bridge_auction.specs.Auction.{AuctionValue}
 use Rattle.bridge_cards.specs.declared.scoring.Scoring.{Scoring}
 use Rattle.bridge_cards.specs.declared.scoring.Scoring.TheVariants.{MatchPoints, Imps}

@@ -1,5 +1,5 @@
 -- A play of a board in JSON: who met, what came of it, what each side gained, and its auction and cards.
-use Rattle.std.specs.Prelude.{ℕ, Bool, true, false, List, [], ◌∷◌, codes, ℤ, Option, None, option_and_then}
+use Rattle.std.specs.Prelude.{ℕ, Bool, true, false, List, [], codes, ℤ, Option, None, option_and_then}
 use Rattle.std.specs.Option.{option_map, option_map_or}
 use Rattle.bridge_cards.specs.Card.{card_text}
 use Rattle.bridge_cards.specs.declared.scoring.Scoring.{Scoring}
