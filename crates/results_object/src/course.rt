@@ -1,5 +1,5 @@
 //! The auction and the cards of a play.
-ghost use Rattle.std.specs.Prelude.{◌≡◌, ◌≤◌, map, length, IfOk};
+ghost use Rattle.std.specs.Prelude.{◌≡◌, map, IfOk};
 ghost use Rattle.std.specs.Option.{option_copied};
 ghost use Rattle.bridge_auction.specs.Spelling.{call_text};
 ghost use Rattle.session_rules.specs.State.{record_of};

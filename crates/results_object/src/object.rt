@@ -2,7 +2,6 @@
 ghost use Rattle.std.specs.Prelude.{◌≡◌, string_bytes, IfOk};
 ghost use Rattle.bridge_config.specs.ConfigValue.{configuration_of};
 ghost use Rattle.bridge_results.specs.RankingText.{ranked_items};
-ghost use Rattle.serde_json.specs.View.{view};
 ghost use Rattle.serde_json.specs.Written.{compact_text};
 ghost use Rattle.results_object.specs.Values.{IsValue};
 ghost use Rattle.results_object.specs.Object.{scoring_text, event_data, results_data, IsObjectText};
