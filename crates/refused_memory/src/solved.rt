@@ -2,7 +2,7 @@
 use super::outcome::{Outcome, Refusals};
 use bridge_cards::{Seat, Suit, read_hands};
 use bridge_endings::{Cache, Ending, solve};
-use std::alloc::Global;
+use std::alloc::{AllocError, Global};
 
 /// Hands, a trump suit, and how many tricks North and South take where South leads.
 static WORTHS: [(&[u8], Option<Suit>, u8); 5] = [
@@ -15,13 +15,13 @@ static WORTHS: [(&[u8], Option<Suit>, u8); 5] = [
 
 /// The answers are the same with a cache of one ending, of all, and without.
 pub fn solve_all(alloc: Global, refusals: &mut Refusals) -> Outcome {
-    solve_with(alloc, 1, refusals)?;
-    solve_with(alloc, 16, refusals)
+    solve_with(Cache::new(alloc, 1), refusals)?;
+    solve_with(Cache::new(alloc, 16), refusals)
 }
 
-/// The answers are the same with a cache of so many endings.
-fn solve_with(alloc: Global, capacity: usize, refusals: &mut Refusals) -> Outcome {
-    let mut cache = Cache::new(alloc, capacity).ok();
+/// The answers are the same with that cache.
+fn solve_with(cache: Result<Cache, AllocError>, refusals: &mut Refusals) -> Outcome {
+    let mut cache = cache.ok();
     if cache.is_none() {
         refusals.note("a cache");
     }

@@ -2,7 +2,7 @@
 use super::disk::{ClubStore, answers, opened, serve_with, served};
 use super::expect_eq;
 use bridge_endings::Cache;
-use std::alloc::Global;
+use std::alloc::{AllocError, Global};
 use std::process::Abort;
 use test_texts::{SEVEN_SPADES, TWO_TABLES};
 
@@ -27,14 +27,18 @@ const QUESTION: &[u8] = b"SOLVE 100 1 1 1 28\n";
 
 const WORTH: &[u8] = b"OK 3 3\n";
 
-/// Fails where a cache of that size is not used, or the reply with it is another.
-fn expect_cached(rt: &impl Abort, alloc: Global, store: &mut ClubStore, capacity: usize) {
-    let cache = Cache::new(alloc, capacity);
+/// Fails where a cache is not used, or the reply with it is another.
+fn expect_cached(
+    rt: &impl Abort,
+    alloc: Global,
+    store: &mut ClubStore,
+    cache: Result<Cache, AllocError>,
+) {
     let mut cache = cache.ok().expect(rt, "a cache");
     let mut reader = QUESTION;
     let mut written = Vec::new(alloc);
     let _ = serve_with(store, Some(&mut cache), &mut reader, &mut written);
-    expect_eq(rt, written.as_slice(), WORTH, capacity);
+    expect_eq(rt, written.as_slice(), WORTH, "the reply");
     expect_eq(rt, cache.tried() > 0, true, "the cache is used");
 }
 
@@ -44,6 +48,7 @@ fn an_endings_worth(rt: HostRuntime) {
     let mut store = played(&rt, rt.alloc());
     let (written, _) = answers(rt.alloc(), &mut store, QUESTION);
     expect_eq(&rt, written.as_slice(), WORTH, "no cache");
-    expect_cached(&rt, rt.alloc(), &mut store, 1);
-    expect_cached(&rt, rt.alloc(), &mut store, 4096);
+    let alloc = rt.alloc();
+    expect_cached(&rt, alloc, &mut store, Cache::new(alloc, 1));
+    expect_cached(&rt, alloc, &mut store, Cache::new(alloc, 4096));
 }

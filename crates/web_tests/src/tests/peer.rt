@@ -2,6 +2,7 @@
 ghost use Rattle.std.specs.Prelude.{◌≡◌, true, IfSome};
 ghost use Rattle.table_pages.specs.Answered.{is_settled};
 
+use super::expect_eq;
 use bridge_config::read_config;
 use bridge_endings::Cache;
 use bridge_session::Session;
@@ -120,13 +121,27 @@ pub fn answered<N: RandomSource + Abort, K: Seconds>(
         blocks: false,
     };
     let mut written = Vec::new(alloc);
-    for _ in 0..200_000 {
-        let turn = take_turn(&mut connection, pages, &mut peer, &mut written);
+    let turns = turns_to_end(&mut connection, pages, &mut peer, &mut written);
+    expect_eq(rt, turns < MOST_TURNS, true, "an end");
+    written
+}
+
+const MOST_TURNS: u32 = 200_000;
+
+/// After how many turns the connection is closed, or the requests are read and nothing is to be written.
+fn turns_to_end<K: Seconds>(
+    connection: &mut Connection,
+    pages: &mut TablePages<ClubStore, K>,
+    peer: &mut Peer<'_>,
+    written: &mut Vec<u8>,
+) -> u32 {
+    for number in 0..MOST_TURNS {
+        let turn = take_turn(connection, pages, peer, written);
         if turn == Turn::Closes || (peer.unread.is_empty() && !connection.wants_write()) {
-            return written;
+            return number;
         }
     }
-    None.expect(rt, "an end")
+    MOST_TURNS
 }
 
 /// A source of hashes.
