@@ -16,7 +16,7 @@ fn new_session(alloc: Global, text: &[u8]) -> Result<Session, RunFault>
     ensures { Begins result (Some text.now) }
 {
     let config = read_config(text)?;
-    Session::new(alloc, config).map_err(|_| RunFault::Store(StoreFault::NoMemory))
+    Session::new(alloc, config).or(Err(RunFault::Store(StoreFault::NoMemory)))
 }
 
 /// The session that begins by the configuration that the reader gives.

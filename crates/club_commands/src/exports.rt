@@ -23,7 +23,7 @@ use table_server::ServeFault;
 fn write_plays<W: Write>(session: &Session, output: &mut W) -> Result<(), RunFault>
     ensures { Writes (stream W.contents output.old output.new) (plays_table session.now) result }
 {
-    write_plays_table(session, output).map_err(|_| RunFault::Stream(ServeFault::Write))
+    write_plays_table(session, output).or(Err(RunFault::Stream(ServeFault::Write)))
 }
 
 /// Writes its rankings so.
@@ -51,7 +51,7 @@ fn write_values<W: Write>(session: &Session, rankings: bool, output: &mut W) -> 
 fn write_whole<W: Write>(text: &str, output: &mut W) -> Result<(), RunFault>
     ensures { Writes (stream W.contents output.old output.new) text.now result }
 {
-    write_text(output, text.as_bytes()).map_err(|_| RunFault::Stream(ServeFault::Write))
+    write_text(output, text.as_bytes()).or(Err(RunFault::Stream(ServeFault::Write)))
 }
 
 /// Writes it as one object, unless memory is refused.

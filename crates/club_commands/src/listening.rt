@@ -27,12 +27,12 @@ pub fn listen_at<N: Host>(rt: &N, host: &WebHost<'_>) -> Result<TcpListener, Run
         ⊎ (fault ≡ RunFault.System Listener)) }
 {
     let address = address_of(host).ok_or(RunFault::System(SystemFault::Address))?;
-    let listener = TcpListener::bind(rt, SocketAddr::from((address, host.port))).map_err(
-        |_| RunFault::System(SystemFault::Listener),
-    )?;
+    let listener = TcpListener::bind(rt, SocketAddr::from((address, host.port))).or(Err(
+        RunFault::System(SystemFault::Listener),
+    ))?;
     listener
         .set_nonblocking(true)
-        .map_err(|_| RunFault::System(SystemFault::Listener))?;
+        .or(Err(RunFault::System(SystemFault::Listener)))?;
     Ok(listener)
 }
 

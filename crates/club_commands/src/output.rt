@@ -11,5 +11,5 @@ use table_server::ServeFault;
 pub fn write_output<W: Write>(output: &mut W, text: &str) -> Result<(), RunFault>
     ensures { Writes (stream W.contents output.old output.new) text.now result }
 {
-    write_text(output, text.as_bytes()).map_err(|_| RunFault::Stream(ServeFault::Write))
+    write_text(output, text.as_bytes()).or(Err(RunFault::Stream(ServeFault::Write)))
 }

@@ -20,14 +20,14 @@ use table_server::ServeFault;
 fn write_evening<W: Write>(config: &Config, output: &mut W) -> Result<(), RunFault>
     ensures { Writes (stream W.contents output.old output.new) (plan_text (evening_of config.now)) result }
 {
-    write_plan(config, output).map_err(|_| RunFault::Stream(ServeFault::Write))
+    write_plan(config, output).or(Err(RunFault::Stream(ServeFault::Write)))
 }
 
 /// Writes what is wrong with a text of that fault.
 fn write_refusal<W: Write>(text: &[u8], fault: ConfigFault, output: &mut W) -> Result<(), RunFault>
     ensures { Writes (stream W.contents output.old output.new) (fault_text text.now fault) result }
 {
-    write_fault(text, fault, output).map_err(|_| RunFault::Stream(ServeFault::Write))
+    write_fault(text, fault, output).or(Err(RunFault::Stream(ServeFault::Write)))
 }
 
 /// Writes the evening that a text plans; or what is wrong with it, which is the fault then.

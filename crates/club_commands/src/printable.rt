@@ -18,7 +18,7 @@ impl<W: Write> fmt::Write for Printable<'_, W> {
             } else {
                 write!(self.writer, "{character}")
             };
-            written.map_err(|_| fmt::Error)?;
+            written.or(Err(fmt::Error))?;
         }
         Ok(())
     }

@@ -68,7 +68,7 @@ pub fn write_ranking<W: Write>(session: &Session, output: &mut W) -> Result<(), 
 pub fn write_games<W: Write>(session: &Session, output: &mut W) -> Result<(), RunFault>
     ensures { Writes (stream W.contents output.old output.new) (session_text session.now) result }
 {
-    write_pbn(session, output).map_err(|_| RunFault::Stream(ServeFault::Write))
+    write_pbn(session, output).or(Err(RunFault::Stream(ServeFault::Write)))
 }
 
 /// The format that `--html` asks for, and that without it.

@@ -86,7 +86,7 @@ fn show_heard<N: Host, W: Write, K: Seconds>(
         pages.old.server pages.new.server (stream W.contents output.old output.new) result) }
 {
     let listener = found?;
-    let keys = RandomState::new(rt).map_err(|_| RunFault::System(SystemFault::Random))?;
+    let keys = RandomState::new(rt).or(Err(RunFault::System(SystemFault::Random)))?;
     write_output(output, line)?;
     show_pages(rt, alloc, keys, &listener, pages, minutes)
 }

@@ -18,8 +18,8 @@ fn locked<S: Files<File = File>>(
 ) -> Result<File, StoreFault>
     ensures fault { IfErr result (λ fault. fault ≡ StoreFault.Disk) }
 {
-    let file = options.open(rt, disk).map_err(|_| StoreFault::Disk)?;
-    file.try_lock().map_err(|_| StoreFault::Disk)?;
+    let file = options.open(rt, disk).or(Err(StoreFault::Disk))?;
+    file.try_lock().or(Err(StoreFault::Disk))?;
     Ok(file)
 }
 
@@ -47,11 +47,11 @@ pub fn lock_to_read<S: Files<File = File>>(rt: &S, disk: &str) -> Result<File, S
 {
     let mut options = OpenOptions::new();
     options.read(true);
-    let file = options.open(rt, disk).map_err(|_| StoreFault::Disk)?;
+    let file = options.open(rt, disk).or(Err(StoreFault::Disk))?;
     if is_folder(&file) {
         return Err(StoreFault::Disk);
     }
-    file.try_lock_shared().map_err(|_| StoreFault::Disk)?;
+    file.try_lock_shared().or(Err(StoreFault::Disk))?;
     Ok(file)
 }
 

@@ -75,7 +75,7 @@ pub fn lock_spare<S: Files<File = File>>(
     if is_spare(rt, alloc, disk, &found) {
         return Ok(found);
     }
-    move_aside(rt, alloc, disk).map_err(|_| StoreFault::Disk)?;
+    move_aside(rt, alloc, disk).or(Err(StoreFault::Disk))?;
     let made = lock_new(rt, disk)?;
     if is_spare(rt, alloc, disk, &made) {
         Ok(made)

@@ -175,7 +175,7 @@ fn write_slips_at<W: Write>(
         format: Format::Html,
         address: Some(address),
     };
-    write_slips(config, Some(names), &sheet, output).map_err(|_| EveningFault::Write)
+    write_slips(config, Some(names), &sheet, output).or(Err(EveningFault::Write))
 }
 
 /// Writes the slips of an evening to the file that was made for them, if one was.

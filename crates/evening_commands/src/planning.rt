@@ -26,7 +26,7 @@ fn write_named<W: Write>(
 {
     match found {
         Ok(names) => {
-            write_plan_with(config, Some(names.as_slice()), output).map_err(|_| EveningFault::Write)
+            write_plan_with(config, Some(names.as_slice()), output).or(Err(EveningFault::Write))
         }
         Err(fault) => stop(fault, output),
     }

@@ -42,7 +42,7 @@ fn write_with<W: Write>(
         format: slip_format(words.text),
         address: words.address,
     };
-    write_slips(config, names, &sheet, output).map_err(|_| EveningFault::Write)
+    write_slips(config, names, &sheet, output).or(Err(EveningFault::Write))
 }
 
 /// Writes the slips of a configuration with the names of a list; or what is wrong with that.
@@ -99,7 +99,7 @@ pub(crate) fn write_refusal<W: Write>(
 ) -> Result<(), EveningFault>
     ensures { Writes (stream W.contents output.old output.new) (fault_text text.now fault) result }
 {
-    write_fault(text, fault, output).map_err(|_| EveningFault::Write)
+    write_fault(text, fault, output).or(Err(EveningFault::Write))
 }
 
 /// Writes the slips of the configuration that a text spells; or what is wrong with it, which is the fault then.

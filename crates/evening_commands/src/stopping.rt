@@ -12,14 +12,14 @@ use std::io::Write;
 fn write_all<W: Write>(output: &mut W, text: &str) -> Result<(), EveningFault>
     ensures { Writes (stream W.contents output.old output.new) text.now result }
 {
-    write_text(output, text.as_bytes()).map_err(|_| EveningFault::Write)
+    write_text(output, text.as_bytes()).or(Err(EveningFault::Write))
 }
 
 /// Writes the fault of a list of names.
 fn write_names<W: Write>(fault: NamesFault, output: &mut W) -> Result<(), EveningFault>
     ensures { Writes (stream W.contents output.old output.new) (fault_words (EveningFault.Names fault)) result }
 {
-    write_names_fault(fault, output).map_err(|_| EveningFault::Write)
+    write_names_fault(fault, output).or(Err(EveningFault::Write))
 }
 
 /// What is due, and why it is refused; of a list's line, a configuration and the system nothing.

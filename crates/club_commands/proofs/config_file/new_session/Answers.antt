@@ -5,5 +5,5 @@ use Rattle.club_commands.proofs.config_file.new_session.Goals as goal
 
 pub returns : goal.returns
 returns c =
-    let begun : (c.map_err.result ≡ Ok (opening c.in_ok-config.config)) ⊎ (c.map_err.result ≡ Err (Store NoMemory)) = search rules in
+    let begun : (c.or.result ≡ Ok (opening c.in_ok-config.config)) ⊎ (c.or.result ≡ Err (Store NoMemory)) = search rules in
     inl (c.in_ok-config.config, c.in_ok-config.ensures.found, begun)
