@@ -769,10 +769,8 @@ td.marked { outline: 2px dashed var(--blue); outline-offset: -2px; }
   #stage .trick { --gap: .5rem; }
   .at-table {
     --cw: 3.2rem; --fw: 4.375rem; --ch: 6.25rem; --tw: 4.5rem; --th: 6.25rem;
-    grid-template: "bar bar" auto "note note" auto "stage side" 1fr "say side" auto "hand side" auto "dock side" auto / minmax(0, 1fr) 18rem;
+    grid-template: "bar bar" auto "stage side" 1fr "note side" auto "say side" auto "hand side" auto "dock side" auto / minmax(0, 1fr) 18rem;
   }
-  .at-table:not(.bidding) #notes > :not(:empty) { margin: 0; border-radius: 0; }
-  .at-table:not(.bidding) #notice { padding: .5rem 1rem; }
   .at-table.bidding { --cw: 2.8rem; grid-template: "bar bar" auto "stage dock" 1fr "note dock" auto "hand dock" auto / minmax(0, 1fr) 23rem; }
   #strip, .bidding #side { display: none; }
   #side { display: flex; flex-direction: column; gap: .9rem; padding: .75rem 1rem; overflow-y: auto; }
