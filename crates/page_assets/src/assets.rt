@@ -540,6 +540,7 @@ summary { cursor: pointer; min-height: 2.2rem; font-weight: bold; }
 :where(.auction, #calls, #side) th { padding: .15rem .1rem; font-size: .8125rem; line-height: 1.25; color: var(--plate-ink); background: var(--plate); }
 :where(.auction, #calls, #side) td { height: 1.65rem; }
 .auction th { position: sticky; top: 0; height: var(--head); }
+.auction th wbr { display: none; }
 .auction td { height: var(--row); }
 :where(.auction, #calls, #side) tbody tr:nth-child(even) { background: var(--soft); }
 :where(.auction, #calls, #side) td .bid { font-weight: bold; }
@@ -692,6 +693,7 @@ td.marked { outline: 2px dashed var(--blue); outline-offset: -2px; }
   :is(.dummy-left .at-left, .dummy-right .at-right) > .plate em { margin-left: auto; }
   .auction { --head: 3.4rem; }
   .auction th { vertical-align: top; white-space: normal; }
+  .auction th wbr { display: inline; }
   .auction th br + span { display: -webkit-box; -webkit-box-orient: vertical; -webkit-line-clamp: 2; overflow: hidden; overflow-wrap: anywhere; }
   .playing { background: linear-gradient(to left, var(--strip) 11rem, transparent 0) var(--felt); }
   #dock { border-top: 0; }
