@@ -427,9 +427,11 @@ function handNode(view, hand, label, id, mine, where) {
 function plate(place, view, seat) {
   const declarer = place.contract ? place.contract.declarer : null;
   const acts = onTurn(view) === dummyOf(place) && view.seat === dummyOf(place) ? declarer : onTurn(view);
+  const name = place.names ? place.names[seat] : SEAT_NAMES[seat];
   const node = make("div", { className: "plate" + (acts === seat ? " turn" : "") },
-    make("b", { className: isVulnerable(view, seat) ? "vul" : "", aria_label: SEAT_NAMES[seat] }, seat), make("span", null, ...nameNodes(place.names ? place.names[seat] : SEAT_NAMES[seat])));
-  if (seat === declarer) node.append(make("em", { aria_label: TEXTS.declarer }, TEXTS.declarerShort));
+    make("b", { className: isVulnerable(view, seat) ? "vul" : "", aria_label: SEAT_NAMES[seat] }, seat), make("span", null, ...nameNodes(name)));
+  const role = name.length > 20 ? "" : "roomy";
+  if (seat === declarer) node.append(make("em", { className: role, aria_label: TEXTS.declarer }, make("i", null, TEXTS.declarerShort), make("i", null, TEXTS.declarer)));
   if (view.playing && seat === dummyOf(place)) node.append(make("em", null, TEXTS.dummy));
   return node;
 }

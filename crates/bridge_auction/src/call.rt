@@ -62,7 +62,7 @@ impl Call {
             0 => Some(Call::Pass),
             1 => Some(Call::Double),
             2 => Some(Call::Redouble),
-            _ => Bid::from_number(number - 3).map(Call::Bid),
+            _ => Some(Call::Bid(Bid::from_number(number - 3)?)),
         }
     }
 }

@@ -24,7 +24,7 @@ pub fn read_call(text: &[u8]) -> Option<Call>
     } else if text == b"XX".as_slice() {
         Some(Call::Redouble)
     } else {
-        read_bid(text).map(Call::Bid)
+        Some(Call::Bid(read_bid(text)?))
     }
 }
 

@@ -10,7 +10,7 @@ use bridge_auction::Bid;
 use bridge_cards::{Seat, Side, Vulnerability};
 
 /// The best scores, in scores of North and South, that the sides reach by one of the highest bids.
-#[derive(Clone, Copy, Debug)]
+#[derive(Clone, Copy)]
 struct BestBids {
     /// That of North and South, where they can bid.
     north_south: Option<i32>,

@@ -3,7 +3,7 @@ use bridge_auction::{Bid, Contract, Doubling};
 use bridge_cards::Seat;
 
 /// A contract that reaches par. It is never redoubled.
-#[derive(Clone, Copy, Debug, PartialEq, Eq, Hash)]
+#[derive(Clone, Copy, Debug, PartialEq, Eq)]
 pub struct ParContract {
     /// The contract.
     pub contract: Contract,

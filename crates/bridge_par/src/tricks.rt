@@ -6,7 +6,7 @@ use bridge_auction::Denomination;
 use bridge_cards::Seat;
 
 /// The tricks that each seat takes as declarer, 0 to 13.
-#[derive(Clone, Copy, Debug, Default, PartialEq, Eq, Hash)]
+#[derive(Clone, Copy, Debug, Default, PartialEq, Eq)]
 pub struct DeclarerTricks {
     /// North's.
     pub north: u8,
@@ -19,7 +19,7 @@ pub struct DeclarerTricks {
 }
 
 /// The tricks that each declarer takes in each denomination.
-#[derive(Clone, Copy, Debug, Default, PartialEq, Eq, Hash)]
+#[derive(Clone, Copy, Debug, Default, PartialEq, Eq)]
 pub struct TrickTable {
     /// With clubs as trumps.
     pub clubs: DeclarerTricks,

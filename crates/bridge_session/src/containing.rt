@@ -19,10 +19,10 @@ pub fn sessions_keep_what_they_have()
 {}
 
 /// The cards of a play, which are none before there is a contract.
-fn cards_of(record: &Record) -> &[Card]
-    ensures { result.now ≡ (plain_of record.now).cards }
+fn cards_of(kept: &Record) -> &[Card]
+    ensures { result.now ≡ (plain_of kept.now).cards }
 {
-    match &record.play {
+    match &kept.play {
         Some(play) => play.cards(),
         None => &[],
     }

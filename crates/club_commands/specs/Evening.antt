@@ -1,5 +1,5 @@
 -- The command `evening`: a session that stands on a disk is gone on with, or an evening is made; and its pages are shown.
-use Rattle.std.specs.Prelude.{◌≡◌, ◌≢◌, ◌⊎◌, ◌++◌, ℕ, List, codes, Option, Some, None, Result, Ok, Err, MatchResult}
+use Rattle.std.specs.Prelude.{◌≡◌, ◌≢◌, ◌⊎◌, ◌++◌, ℕ, List, codes, Option, Some, None, Result, Ok, Err}
 use Rattle.club_commands.specs.Basis.{Bor, Stream, IsUntouched, Disk, file_disk, header_in, SessionValue, ClubDisk, RefusesReading, StoreFault, TooSmall, DiskFault, NotFormatted, NoMemory, RunFault, Store}
 use Rattle.bridge_config.specs.ConfigValue.{ConfigValue}
 use Rattle.club_commands.specs.Ended.{Ended}

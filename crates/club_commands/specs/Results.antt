@@ -1,5 +1,5 @@
 -- What the commands `rank`, `pbn` and `results` write, and how `results` leaves a disk.
-use Rattle.std.specs.Prelude.{◌≡◌, ◌⊎◌, ◌++◌, [], ℕ, Bool, if◌then◌else◌, List, length, map, codes, Option, MatchBool}
+use Rattle.std.specs.Prelude.{◌≡◌, ◌⊎◌, ◌++◌, [], ℕ, Bool, if◌then◌else◌, List, length, map, codes, MatchBool}
 use Rattle.club_commands.specs.Basis.{Store, NoMemory, Disk, header_in, Stream, Ranking, Games, RefusesReading, RefusesDisk, ClubDisk, Over, file_disk, SessionValue}
 use Rattle.club_commands.specs.declared.work.Told.{Told}
 use Rattle.command_line.specs.declared.command.PageAsked.{PageAsked}

@@ -9,7 +9,7 @@ use table_pages::PageTexts;
 use table_server::LineSet;
 
 /// To whom the lines of a session are answered.
-#[derive(Clone, Copy, Debug)]
+#[derive(Clone, Copy)]
 pub enum Service<'a> {
     /// To standard input, of that set.
     Input(LineSet),
@@ -30,7 +30,7 @@ pub enum Service<'a> {
 }
 
 /// What pages are shown, where, for how many minutes, and with which names in place of the configuration's.
-#[derive(Clone, Copy, Debug)]
+#[derive(Clone, Copy)]
 pub struct Shown<'a> {
     /// What the pages are.
     pub texts: PageTexts,
@@ -45,7 +45,7 @@ pub struct Shown<'a> {
 }
 
 /// What comes of a list of names with another number of pairs than the session has.
-#[derive(Clone, Copy, Debug, PartialEq, Eq)]
+#[derive(Clone, Copy)]
 pub enum Misfit {
     /// It is refused.
     Refused,
@@ -54,7 +54,7 @@ pub enum Misfit {
 }
 
 /// What is done over a disk where names may be shown in place of the configuration's.
-#[derive(Clone, Copy, Debug)]
+#[derive(Clone, Copy)]
 pub enum Listed<'a> {
     /// The results of its session are written as a page.
     Results(PageAsked),
@@ -101,7 +101,7 @@ impl<'a> Listed<'a> {
 }
 
 /// Which results of a session are written.
-#[derive(Clone, Copy, Debug, PartialEq, Eq)]
+#[derive(Clone, Copy)]
 pub enum Told {
     /// The ranking of each field.
     Ranking,

@@ -40,10 +40,10 @@ ended_at n found all result below none ends =
     subst Q (sym none) (subst P (sym (one_more n below)) ends)
 
 pub too_many : (n : ℕ) (found : List PairNames) (all : List (List ℕ)) → n ≡ 1001 →
-    ReadsLines (1001 - n) n found all (Err (fault_at 1001 TooManyLines))
+    ReadsLines (1001 - n) n found all (Err (fault_at 1000 TooManyLines))
 unfolding ReadsLines
 too_many n found all last =
-    let P : ℕ → Type 0 = λ k. ReadsLines (1001 - k) k found all (Err (fault_at 1001 TooManyLines)) in
+    let P : ℕ → Type 0 = λ k. ReadsLines (1001 - k) k found all (Err (fault_at 1000 TooManyLines)) in
     subst P (sym last) refl
 
 pub begun : (found : List PairNames) (all : List (List ℕ)) → found ≡ [] → (result : Result (List PairNames) NamesFault) →

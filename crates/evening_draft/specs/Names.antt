@@ -95,12 +95,12 @@ TakesLine number line found after (Err fault) =
 
 -- what the lines give of which the first has that number, where so many more may come, after the pairs that were found
 unfoldable pub ReadsLines : ℕ → ℕ → List PairNames → List (List ℕ) → Result (List PairNames) NamesFault → Type 0
-ReadsLines zero number found texts result = result ≡ Err (fault_at number TooManyLines)
+ReadsLines zero number found texts result = result ≡ Err (fault_at 1000 TooManyLines)
 ReadsLines (suc more) number found [] result = ReadsEnd number found result
 ReadsLines (suc more) number found (line ∷ texts) result =
     ((fault : NamesFault) × (after : List PairNames) × TakesLine number line found after (Err fault) × (result ≡ Err fault))
     ⊎ ((after : List PairNames) × TakesLine number line found after (Ok tt) × ReadsLines more (number + 1) after texts result)
 
--- a list of names has fewer than 1,000 lines
+-- a list of names has fewer than 1,000 lines: the thousandth is too many
 unfoldable pub ReadsNames : List (List ℕ) → Result (List PairNames) NamesFault → Type 0
 ReadsNames texts result = ReadsLines 1000 1 [] texts result

@@ -111,5 +111,5 @@ pub fn read_names(text: &[u8]) -> Result<ArrayVec<PairNames, MOST_PAIRS>, NamesF
         push_line(number, line, &mut pairs)?;
         rest = after;
     }
-    Err(fault_at(1001, NamesRefused::TooManyLines))
+    Err(fault_at(1000, NamesRefused::TooManyLines))
 }

@@ -27,7 +27,7 @@ pub fn read_piece<R: Read>(
     let room = piece.len().min(most);
     reader
         .read(&mut piece[..room])
-        .map_err(|_| ServeFault::Read)
+        .or(Err(ServeFault::Read))
 }
 
 /// What stands before the last line.

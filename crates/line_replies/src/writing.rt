@@ -12,5 +12,5 @@ pub fn write_whole<W: Write>(writer: &mut W, text: &str) -> Result<(), ServeFaul
     ensures written { Written (stream W.contents writer.old writer.new) text.now result }
     ensures fault { IfErr result (λ fault. fault ≡ WriteFault) }
 {
-    write_text(writer, text.as_bytes()).map_err(|_| ServeFault::Write)
+    write_text(writer, text.as_bytes()).or(Err(ServeFault::Write))
 }

@@ -43,10 +43,10 @@ ended_at n heading found all below none =
 
 -- more lines than there may be
 pub too_many : (n : ℕ) (heading : Heading) (found : List BoardDeal) (all : List (List ℕ)) → n ≡ 100001 →
-    ReadsLines (100001 - n) n heading found all (Err (fault_at 100001 TooManyLines))
+    ReadsLines (100001 - n) n heading found all (Err (fault_at 100000 TooManyLines))
 unfolding ReadsLines
 too_many n heading found all last =
-    let P : ℕ → Type 0 = λ k. ReadsLines (100001 - k) k heading found all (Err (fault_at 100001 TooManyLines)) in
+    let P : ℕ → Type 0 = λ k. ReadsLines (100001 - k) k heading found all (Err (fault_at 100000 TooManyLines)) in
     subst P (sym last) refl
 
 -- what follows from all that is left follows from the whole

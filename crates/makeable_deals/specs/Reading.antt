@@ -192,13 +192,13 @@ TakesItem number heading found says after more (Err fault) =
 
 -- what the lines give of which the first has that number, where fewer than so many may come: the deals, or the first fault
 unfoldable pub ReadsLines : ℕ → ℕ → Heading → List BoardDeal → List (List ℕ) → Result (List BoardDeal) DealsFault → Type 0
-ReadsLines zero number heading found texts result = result ≡ Err (fault_at number refused.TooManyLines)
+ReadsLines zero number heading found texts result = result ≡ Err (fault_at 100000 refused.TooManyLines)
 ReadsLines (suc more) number heading found [] result = result ≡ Ok found
 ReadsLines (suc more) number heading found (line ∷ texts) result =
     ((cause : DealsRefused) × RefusesLine heading found line cause × (result ≡ Err (fault_at number cause)))
     ⊎ ((after : Heading) × (deals : List BoardDeal) × TakesLine heading found line after deals
     × ReadsLines more (number + 1) after deals texts result)
 
--- what a text gives, of at most 99,999 lines; or memory was refused
+-- what a text gives, of at most 99,999 lines: the line after them is too many; or memory was refused
 abbrev pub ReadsDeals : List (List ℕ) → Result (List BoardDeal) DealsFault → Type 0
 ReadsDeals texts result = (result ≡ Err Memory) ⊎ ReadsLines 100000 1 no_heading [] texts result

@@ -2,7 +2,7 @@
 use bridge_cards::{BoardNumber, Deal, Seat, Vulnerability};
 
 /// A deal, and on which board it is played.
-#[derive(Clone, Copy, Debug, PartialEq, Eq, Hash)]
+#[derive(Clone, Copy)]
 pub struct BoardDeal {
     /// The board.
     pub board: BoardNumber,

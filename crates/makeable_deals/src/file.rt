@@ -17,7 +17,7 @@ use std::io::{self, Read, Write};
 use std::rt::Files;
 
 /// Why not all of what deals could make was written.
-#[derive(Clone, Copy, Debug, PartialEq, Eq, Hash)]
+#[derive(Clone, Copy, Debug, PartialEq, Eq)]
 pub enum MakeableFault {
     /// The file cannot be read.
     Read,
@@ -30,7 +30,7 @@ pub enum MakeableFault {
 }
 
 /// What is written.
-#[derive(Clone, Copy, Debug, PartialEq, Eq, Hash)]
+#[derive(Clone, Copy)]
 pub enum MakeableForm {
     /// A line for each declarer of each deal, and one for par.
     Lines,

@@ -36,7 +36,7 @@ fn deals_after<'a>(line: &[u8], deals: &'a [BoardDeal]) -> &'a [BoardDeal]
 fn write_piece<W: Write>(piece: &[u8], writer: &mut W) -> Result<(), WriteFault>
     ensures { Written (stream W.contents writer.old writer.new) piece.now result }
 {
-    write_text(writer, piece).map_err(|_| WriteFault::Write)
+    write_text(writer, piece).or(Err(WriteFault::Write))
 }
 
 /// Writes a line with its line feed.
@@ -58,7 +58,7 @@ fn write_tags<W: Write>(
 {
     let table = work
         .solve(alloc, &deal.deal)
-        .map_err(|_| WriteFault::Memory)?;
+        .or(Err(WriteFault::Memory))?;
     write_piece(tags_with(deal, &table).as_slice(), writer)
 }
 

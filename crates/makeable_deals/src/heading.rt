@@ -7,7 +7,7 @@ use crate::line_item::LineItem;
 use bridge_cards::{BoardNumber, Deal, Seat, Vulnerability, dealer, vulnerability_of};
 
 /// The tags before a deal, as far as there are any.
-#[derive(Clone, Copy, Debug, PartialEq, Eq)]
+#[derive(Clone, Copy)]
 pub struct Heading {
     /// The board.
     pub board: Option<BoardNumber>,

@@ -10,7 +10,7 @@ use bridge_cards::{BoardNumber, Deal, Seat, Vulnerability, read_deal};
 use line_text::{first_word, is_numeral, value_of};
 
 /// What a line says.
-#[derive(Clone, Copy, Debug, PartialEq, Eq)]
+#[derive(Clone, Copy)]
 pub enum LineItem {
     /// A board.
     Board(BoardNumber),

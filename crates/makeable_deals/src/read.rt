@@ -82,5 +82,5 @@ pub fn read_deals(alloc: Global, text: &[u8]) -> Result<Vec<BoardDeal>, DealsFau
         }
         rest = after;
     }
-    Err(DealsFault::Line(100_001, DealsRefused::TooManyLines))
+    Err(DealsFault::Line(100_000, DealsRefused::TooManyLines))
 }

@@ -1,6 +1,6 @@
 //! Why a text of deals is refused.
 /// What is wrong with a line, or with the text.
-#[derive(Clone, Copy, Debug, PartialEq, Eq, Hash)]
+#[derive(Clone, Copy, Debug, PartialEq, Eq)]
 pub enum DealsRefused {
     /// The board is no number from 1 to 36.
     Board,
@@ -17,7 +17,7 @@ pub enum DealsRefused {
 }
 
 /// Why no deals are had.
-#[derive(Clone, Copy, Debug, PartialEq, Eq, Hash)]
+#[derive(Clone, Copy, Debug, PartialEq, Eq)]
 pub enum DealsFault {
     /// A line is refused, the first of them: its number from 1, and what is wrong with it.
     Line(u32, DealsRefused),

@@ -10,7 +10,7 @@ use std::alloc::Global;
 use std::io::Write;
 
 /// Why not all of it was written.
-#[derive(Clone, Copy, Debug, PartialEq, Eq, Hash)]
+#[derive(Clone, Copy, Debug, PartialEq, Eq)]
 pub enum WriteFault {
     /// Memory is refused.
     Memory,
@@ -29,8 +29,8 @@ fn write_deal<W: Write>(
 {
     let table = work
         .solve(alloc, &deal.deal)
-        .map_err(|_| WriteFault::Memory)?;
-    write_text(writer, lines_with(deal, &table).as_slice()).map_err(|_| WriteFault::Write)
+        .or(Err(WriteFault::Memory))?;
+    write_text(writer, lines_with(deal, &table).as_slice()).or(Err(WriteFault::Write))
 }
 
 /// Writes what each of the deals could make, one after another as it is found: a line for each declarer, as `1 N 10 4 9 8 9`, with

@@ -298,6 +298,8 @@ body.director main { max-width: 84rem; }
 #back-to { flex: 1 1 8rem; margin: 0 0 0 .4rem; }
 .action, #opened-back { width: 100%; min-height: 3.25rem; font-size: 1.0625rem; }
 #opened-back:enabled { color: var(--on-blue); background: var(--blue); border-color: var(--blue); }
+/* Of the parts that are open the last has the blue button. */
+#ruling details:has(~ details[open]) :is(.send, #opened-back):enabled { color: inherit; background: var(--panel); border-color: var(--edge); }
 .director .action.send { width: 100%; }
 .per { display: grid; grid-template-columns: 2.5rem repeat(3, minmax(0, 1fr)); gap: .35rem; align-items: center; margin-bottom: .35rem; }
 .per button { padding: .2rem; font-size: .9375rem; }
@@ -460,6 +462,10 @@ summary { cursor: pointer; min-height: 2.2rem; font-weight: bold; }
 .plate b { display: inline-grid; place-items: center; width: 1.6rem; height: 1.6rem; border-radius: 50%; color: #fff; background: var(--not-vul); flex: none; }
 .plate b.vul { background: var(--vul); }
 .plate em { flex: none; padding: 0 .25rem; border: 1px solid currentcolor; border-radius: .25rem; font-style: normal; font-size: .75rem; font-weight: bold; white-space: nowrap; }
+/* Declarer in full across the table, where it is wide or the name short. */
+.plate em i { font-style: normal; }
+.plate em i + i, .at-top em.roomy :first-child { display: none; }
+.at-top em.roomy i + i { display: inline; }
 .at-top > .plate { margin: 0 auto .2rem; }
 .at-top > .plate span { font-size: .9375rem; line-height: 1.1; }
 :is(.at-left, .at-right) > .plate { flex-direction: column; width: 100%; max-width: 6.25rem; padding: .2rem; border-radius: .5rem; font-size: .8125rem; line-height: 1.2; }
@@ -722,6 +728,8 @@ td.marked { outline: 2px dashed var(--blue); outline-offset: -2px; }
   #status { font-size: 1.0625rem; }
   :is(#hand, .at-top) .card { padding-left: .45rem; }
   #stage { padding: .75rem 1rem; }
+  .at-top em :first-child { display: none; }
+  .at-top em i + i { display: inline; }
   :is(.at-left, .at-right) > .plate { max-width: 8rem; font-size: .9375rem; }
   .at-left, .at-right { --cw: 1.875rem; --fw: 3.25rem; --ch: 4.25rem; }
   :is(.at-left, .at-right) .card { font-size: 1.5rem; }
@@ -2437,9 +2445,11 @@ function handNode(view, hand, label, id, mine, where) {
 function plate(place, view, seat) {
   const declarer = place.contract ? place.contract.declarer : null;
   const acts = onTurn(view) === dummyOf(place) && view.seat === dummyOf(place) ? declarer : onTurn(view);
+  const name = place.names ? place.names[seat] : SEAT_NAMES[seat];
   const node = make("div", { className: "plate" + (acts === seat ? " turn" : "") },
-    make("b", { className: isVulnerable(view, seat) ? "vul" : "", aria_label: SEAT_NAMES[seat] }, seat), make("span", null, ...nameNodes(place.names ? place.names[seat] : SEAT_NAMES[seat])));
-  if (seat === declarer) node.append(make("em", { aria_label: TEXTS.declarer }, TEXTS.declarerShort));
+    make("b", { className: isVulnerable(view, seat) ? "vul" : "", aria_label: SEAT_NAMES[seat] }, seat), make("span", null, ...nameNodes(name)));
+  const role = name.length > 20 ? "" : "roomy";
+  if (seat === declarer) node.append(make("em", { className: role, aria_label: TEXTS.declarer }, make("i", null, TEXTS.declarerShort), make("i", null, TEXTS.declarer)));
   if (view.playing && seat === dummyOf(place)) node.append(make("em", null, TEXTS.dummy));
   return node;
 }

@@ -3,6 +3,10 @@ use Rattle.std.specs.Prelude.{[]}
 use Rattle.sector_disk.specs.Blocks.{Blocks}
 use Rattle.sector_disk.specs.declared.system_file.SystemFile.{SystemFile}
 
+-- the runtime's file
+abbrev pub file_in : {F : Type 0} → SystemFile F → F
+file_in s = s.file
+
 -- Whether it is honest, how long it is, what reads give, what power cuts leave. No proof elsewhere can unfold this.
 pub system_blocks : {F : Type 0} → Blocks (SystemFile F)
 system_blocks = record {

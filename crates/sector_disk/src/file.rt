@@ -1,9 +1,6 @@
 //! A disk in a file.
 ghost use Rattle.std.specs.Prelude.{◌≡◌, ◌*◌, ◌/◌, ◌-◌, ◌<◌, ◌≤◌, ◌^◌, ℕ, min, max, replicate, OnOk, IfOk, IfErr};
 
-#[cfg(test)]
-mod tests;
-
 use crate::faults::counted;
 use crate::{BlockFile, DiskFault, Refused, SectorDisk, SystemFile, disk};
 use std::fs::{OpenFile, OpenOptions};
@@ -47,7 +44,7 @@ impl<F: OpenFile + FileExt + Drop> FileDisk<SystemFile<F>> {
         let Ok(file) = options.open(rt, path) else {
             return Err(DiskFault::Write);
         };
-        FileDisk::filled(SystemFile { file })
+        FileDisk::filled(SystemFile::new(file))
     }
 
     /// Opens a file. It has as many sectors as the file has whole ones, at most 2^32 - 1; bytes past them don't
@@ -66,7 +63,7 @@ impl<F: OpenFile + FileExt + Drop> FileDisk<SystemFile<F>> {
         let Ok(file) = options.open(rt, path) else {
             return Err(DiskFault::Read);
         };
-        FileDisk::found(SystemFile { file })
+        FileDisk::found(SystemFile::new(file))
     }
 
     /// Opens a file for reading alone, as one that may not be written; a write of the disk fails. Its sectors, and the fault,
@@ -85,7 +82,7 @@ impl<F: OpenFile + FileExt + Drop> FileDisk<SystemFile<F>> {
         let Ok(file) = options.open(rt, path) else {
             return Err(DiskFault::Read);
         };
-        FileDisk::found(SystemFile { file })
+        FileDisk::found(SystemFile::new(file))
     }
 }
 
@@ -129,6 +126,14 @@ impl<F: BlockFile + Drop> FileDisk<F> {
             }),
             Err(_) => Err(DiskFault::Read),
         }
+    }
+
+    /// The file in it.
+    pub fn into_file(self) -> F
+        ensures { result ≡ file_of self }
+    {
+        let FileDisk { file, .. } = self;
+        file
     }
 }
 

@@ -16,8 +16,6 @@ mod fuse;
 mod memory;
 mod sector_file;
 mod system_file;
-#[cfg(test)]
-mod tests;
 
 pub use blocks::{BlockFile, Refused};
 pub use disk::{DiskFault, SECTOR_BYTES, SectorDisk};

@@ -5,8 +5,6 @@ ghost use Rattle.sector_disk.specs.Held.{IsReplayed, sector_at};
 mod changes;
 mod events;
 mod sectors;
-#[cfg(test)]
-mod tests;
 
 use crate::faults::counted;
 use crate::{DiskFault, SECTOR_BYTES, SectorDisk};

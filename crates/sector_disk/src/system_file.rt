@@ -1,4 +1,6 @@
 //! A file of the runtime, as a file of blocks.
+ghost use Rattle.std.specs.Prelude.{◌≡◌};
+
 use crate::{BlockFile, Refused, SECTOR_BYTES};
 use std::fs::OpenFile;
 use std::os::unix::fs::FileExt;
@@ -9,7 +11,18 @@ use std::os::unix::fs::FileExt;
 #[derive(Drop)]
 pub struct SystemFile<F> {
     /// The runtime's file.
-    pub(crate) file: F,
+    file: F,
+}
+
+impl<F> SystemFile<F> {
+    ghost use Rattle.sector_disk.specs.SystemFile.{file_in};
+
+    /// An open file as a file of blocks.
+    pub fn new(file: F) -> SystemFile<F>
+        ensures { file_in result ≡ file }
+    {
+        SystemFile { file }
+    }
 }
 
 #[tactic(auto, using(crate::specs::SystemFile::no_system_file_is_honest))]
@@ -27,14 +40,14 @@ impl<F: OpenFile + FileExt> BlockFile for SystemFile<F> {
     }
 
     fn read_block(&mut self, offset: u64, bytes: &mut [u8; SECTOR_BYTES]) -> Result<(), Refused> {
-        self.file.read_exact_at(bytes, offset).map_err(|_| Refused)
+        self.file.read_exact_at(bytes, offset).or(Err(Refused))
     }
 
     fn write_block(&mut self, offset: u64, bytes: &[u8; SECTOR_BYTES]) -> Result<(), Refused> {
-        self.file.write_all_at(bytes, offset).map_err(|_| Refused)
+        self.file.write_all_at(bytes, offset).or(Err(Refused))
     }
 
     fn sync(&mut self) -> Result<(), Refused> {
-        self.file.sync_data().map_err(|_| Refused)
+        self.file.sync_data().or(Err(Refused))
     }
 }

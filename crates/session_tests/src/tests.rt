@@ -1,9 +1,7 @@
 //! A plain twin beside random sessions, the bytes of parts and actions, and the disks that hold sessions. Worked sessions,
 //! with the answer to each action, their rankings and their results, stand in examples/sessions.
 mod action_bytes;
-mod corrections;
 mod disk;
-mod faults;
 mod holder;
 mod mended;
 mod old_disk;
@@ -11,7 +9,6 @@ mod parts;
 mod random_actions;
 mod random_sessions;
 mod restored;
-mod results;
 mod rows;
 mod script;
 mod stack;

@@ -1,10 +1,12 @@
-//! A counter kept on a disk in memory: power cuts, faults, and disks that a test wrote.
+//! Disks in a file and in memory, and a counter kept on a disk in memory: power cuts, faults, and disks that a test wrote.
 mod checkpoints;
 mod counter;
 mod disks;
 mod epochs;
 mod faults;
+mod files;
 mod formatting;
+mod memory;
 mod rows;
 
 use arrayvec::ArrayVec;

@@ -30,8 +30,8 @@ fn set_up<S: OpenStream>(connection: &S) {
 fn sides<N: Net>(listener: &N::Listener) -> Result<(N::Stream, N::Stream), ServeFault>
     ensures { IfErr result (λ fault. fault ≡ AcceptFault) }
 {
-    let (reader, _) = listener.accept().map_err(|_| ServeFault::Accept)?;
-    let writer = reader.try_clone().map_err(|_| ServeFault::Accept)?;
+    let (reader, _) = listener.accept().or(Err(ServeFault::Accept))?;
+    let writer = reader.try_clone().or(Err(ServeFault::Accept))?;
     set_up(&reader);
     Ok((reader, writer))
 }

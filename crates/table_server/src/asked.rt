@@ -12,7 +12,7 @@ use bridge_session::{Action, Field, PlayId};
 use line_text::{LINE_BYTES, without_return};
 
 /// What a line asks to be told.
-#[derive(Clone, Copy, Debug, PartialEq, Eq)]
+#[derive(Clone, Copy)]
 pub enum Question {
     /// That all that was accepted is confirmed.
     Sync,
@@ -45,7 +45,7 @@ pub enum Question {
 }
 
 /// What a complete line asks for.
-#[derive(Clone, Copy, Debug, PartialEq, Eq)]
+#[derive(Clone, Copy)]
 pub enum Asked {
     /// A change of the session.
     Change(Action),

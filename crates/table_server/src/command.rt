@@ -16,7 +16,7 @@ use thiserror::Error;
 pub struct BadLine;
 
 /// A line's command, with its words as values.
-#[derive(Clone, Copy, Debug, PartialEq, Eq)]
+#[derive(Clone, Copy)]
 pub enum Command {
     /// The director deals a board: the hands, North's first and then clockwise. They need be no deal.
     Deal {

@@ -10,7 +10,6 @@ use session_store::{Store, SubmitFault};
 
 /// Takes a change, and answers the reply that is due once it is confirmed; `None` where the store accepted the change and
 /// then failed, and where it takes none: it had failed, or 64 changes are pending.
-#[tactic(auto, using(crate::proofs::FaultLemmas::submit_fails))]
 pub fn take_change<D: SectorDisk + Drop>(
     store: &mut Store<D, Session>,
     action: &Action,

@@ -1,5 +1,4 @@
-//! Tests of the pages by public calls alone, over streams of known bytes: what a request is answered, whole or byte by byte,
-//! and that what is posted is what `serve` answers.
+//! Tests of the web loop by public calls alone: how a turn ends, and how long an address waits that guesses keys.
 #![tactic(auto)]
 
 #[cfg(test)]

@@ -1,12 +1,7 @@
-//! Requests of known bytes, and their responses.
-mod boards;
-mod desk;
+//! Peers of which the bytes are known, and addresses that guess.
 mod guesses;
-mod peer;
-mod posted;
-mod requests;
+mod guest_book;
 mod turns;
-mod waiting;
 
 use std::fmt::Debug;
 use std::process::Abort;

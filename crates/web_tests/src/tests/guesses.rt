@@ -1,15 +1,10 @@
 //! Addresses that guess keys, and how long they wait.
 use super::expect_eq;
-use super::peer::{ClubStore, StoppedClock, answered, pages};
-use super::requests::{LINES, request, status_of};
-use std::alloc::Global;
 use std::net::{IpAddr, Ipv4Addr, Ipv6Addr};
 use std::process::Abort;
-use std::random::RandomSource;
 use std::test::Fail;
 use std::time::{Duration, Instant};
-use table_pages::TablePages;
-use web_loop::{LastingService, Offenders};
+use web_loop::Offenders;
 
 /// An address of the club's network.
 fn device(number: u8) -> IpAddr {
@@ -17,7 +12,7 @@ fn device(number: u8) -> IpAddr {
 }
 
 /// So many milliseconds later.
-pub fn after(rt: &impl Abort, begun: Instant, millis: u64) -> Instant {
+fn after(rt: &impl Abort, begun: Instant, millis: u64) -> Instant {
     let time = begun.checked_add(Duration::from_millis(millis));
     time.expect(rt, "a time")
 }
@@ -96,47 +91,4 @@ fn addresses_are_told_apart(rt: HostRuntime) -> Result<(), Fail> {
     let mapped = IpAddr::from(Ipv6Addr::new(0, 0, 0, 0, 0, 0xffff, 0xc0a8, 0x0401));
     expect_eq(&rt, offenders.waits(mapped, then), true, "mapped");
     Ok(())
-}
-
-/// The first line of a request, its body, its status, and how many wrong keys there were until then.
-type Counted = (&'static str, &'static str, &'static str, u64);
-
-static COUNTED: [Counted; 9] = [
-    ("GET / HTTP/1.1", "", "200", 0),
-    (
-        "POST /lines HTTP/1.1",
-        "SEE 1\nSEE 11\nSEE 2\nCALL 3 1 0 PASS\n",
-        "200",
-        3,
-    ),
-    ("POST /place HTTP/1.1", "999", "200", 4),
-    ("POST /place HTTP/1.1", "11", "200", 4),
-    ("POST /tables HTTP/1.1", "999", "200", 5),
-    ("POST /boards HTTP/1.1", "999", "200", 6),
-    ("POST /results HTTP/1.1", "999", "200", 7),
-    ("POST /names HTTP/1.1", "999", "200", 8),
-    ("GET /lines HTTP/1.1", "SEE 1\n", "405", 8),
-];
-
-/// Fails where a row's request has another status, or other keys are counted.
-fn expect_counted<N: RandomSource + Abort>(
-    rt: &N,
-    alloc: Global,
-    pages: &mut TablePages<ClubStore, StoppedClock>,
-    row: &Counted,
-) {
-    let (first, body, status, due) = *row;
-    let text = request(rt, alloc, first, "127.0.0.1:4000", LINES, body);
-    let response = answered(rt, alloc, pages, text.as_bytes(), 4096);
-    expect_eq(rt, status_of(response.as_slice()), status.as_bytes(), first);
-    expect_eq(rt, pages.offences(), due, body);
-}
-
-// Each path that answers keys counts them, and no other.
-#[test]
-fn wrong_keys_are_counted(rt: HostRuntime) {
-    let mut pages = pages(&rt, rt.alloc());
-    for row in COUNTED.as_slice() {
-        expect_counted(&rt, rt.alloc(), &mut pages, row);
-    }
 }

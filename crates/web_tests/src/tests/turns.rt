@@ -1,12 +1,12 @@
 //! How a turn ends, by what the peer gives and takes.
 use super::expect_eq;
-use super::peer::{pages, random};
-use http_server::Connection;
+use super::guest_book::GuestBook;
+use http_server::{Config, Connection};
 use std::alloc::Global;
+use std::hash::RandomState;
 use std::io::{Error, ErrorKind, Read, Result, Write};
 use std::process::Abort;
 use std::random::RandomSource;
-use table_pages::limits;
 use web_loop::{Turn, take_turn};
 
 /// The bytes of one of two requests.
@@ -16,8 +16,8 @@ const REQUEST_BYTES: usize = 40;
 const REQUESTS: &[u8] =
     b"GET / HTTP/1.1\r\nHost: localhost:4000\r\n\r\nGET / HTTP/1.1\r\nHost: localhost:4000\r\n\r\n";
 
-/// The key 7, which nobody has, posted twice.
-const GUESSES: &[u8] =
+/// An offence, posted twice.
+const OFFENCES: &[u8] =
     b"POST /place HTTP/1.1\r\nHost: localhost:4000\r\nContent-Type: application/x-table-lines\r\nContent-Length: 1\r\n\r\n7POST /place HTTP/1.1\r\nHost: localhost:4000\r\nContent-Type: application/x-table-lines\r\nContent-Length: 1\r\n\r\n7";
 
 /// Fails so at its first read, gives so many bytes at each other, and blocks once all are given.
@@ -164,9 +164,14 @@ fn turn_of<N: RandomSource + Abort>(
 ) -> (Turn, usize, bool) {
     let mut giver = giver;
     let mut taker = Taker { first, taken: 0 };
-    let mut connection = Connection::new(alloc, random(rt), limits());
-    let mut pages = pages(rt, alloc);
-    let turn = take_turn(&mut connection, &mut pages, &mut giver, &mut taker);
+    let keys = RandomState::new(rt).ok().expect(rt, "a random number");
+    let one_after_another = Config {
+        max_pending: 0,
+        ..Config::default()
+    };
+    let mut connection = Connection::new(alloc, keys, one_after_another);
+    let mut book = GuestBook { posts: 0 };
+    let turn = take_turn(&mut connection, &mut book, &mut giver, &mut taker);
     (turn, giver.unread.len(), taker.taken > 0)
 }
 
@@ -179,14 +184,14 @@ fn turns_end_as_the_peer_has_it(rt: HostRuntime) {
     }
 }
 
-// A turn ends behind the answer to a key that nobody has, and the next request waits for another turn.
+// A turn ends behind the answer to an offence, and the next request waits for another turn.
 #[test]
-fn a_wrong_key_ends_the_turn_once_it_is_answered(rt: HostRuntime) {
-    let half = GUESSES.len() / 2;
+fn an_offence_ends_the_turn_once_it_is_answered(rt: HostRuntime) {
+    let half = OFFENCES.len() / 2;
     let giver = Giver {
         fails: None,
         piece: half,
-        unread: GUESSES,
+        unread: OFFENCES,
     };
     let found = turn_of(&rt, rt.alloc(), giver, Taking::All);
     expect_eq(&rt, found, (Turn::GoesOn, half, true), "answered");
