@@ -3,7 +3,8 @@
     read.py PROGRAM FOLDER EXAMPLES SCHEMA
 
 The object is read by Python's json and by jq, checked against the schema, and held against the comma-separated values and the games of
-`pbn`. The status is 1 where anything differs.
+`pbn`; the games of `export --pbn` against those values, and against what `makeable` finds for the same deals. The status is 1 where
+anything differs.
 """
 import csv
 import glob
@@ -14,16 +15,10 @@ import re
 import subprocess
 import sys
 
+import games as notation
+from games import Differs, demand
+
 KINDS = {"object": dict, "array": list, "string": str, "null": type(None)}
-
-
-class Differs(Exception):
-    """What is not so."""
-
-
-def demand(holds, text):
-    if not holds:
-        raise Differs(text)
 
 
 def is_kind(value, kind):
@@ -119,6 +114,8 @@ class Reader:
         wrong = fault(results, self.schema, self.schema)
         demand(wrong is None, wrong)
         self.by_others(written, results)
+        tables = [list(csv.reader(io.StringIO(self.run("export", disk, *words), newline="")))[1:] for words in (["--csv"], ["--csv", "--rankings"])]
+        notation.compare_strictly(self.run("export", disk, "--pbn", "--no-analysis"), *tables, results)
         for words, rows in [([], plays_of(results)), (["--rankings"], ranked_of(results))]:
             table = list(csv.reader(io.StringIO(self.run("export", disk, *words), newline="")))[1:]
             table = [[field if field != "-" else "" for field in row] for row in table]
@@ -129,6 +126,18 @@ class Reader:
             self.courses(board, games)
         demand(not games, f"no plays of {list(games)}")
         return results
+
+    def solve(self, disk, folder):
+        """What could be made stands in the games, as `makeable` finds it for their deals."""
+        deals = os.path.join(folder, "read.pbn")
+        with open(deals, "w", encoding="ascii") as file:
+            file.write(self.run("export", disk, "--pbn", "--no-analysis"))
+        found = notation.games_of(self.run("makeable", deals, "--pbn"))
+        wanted = [(dict(tags)["Board"], dict(tags)["OptimumScore"], tables["OptimumResultTable"].rows) for tags, tables in found]
+        games = notation.games_of(self.run("export", disk, "--pbn"))
+        told = [(dict(tags)["Board"], dict(tags)["OptimumScore"], tables["OptimumResultTable"].rows) for tags, tables in games]
+        demand(told == wanted, "it has something else of what could be made")
+        return len(told)
 
     def by_others(self, written, results):
         """jq reads the same, and jsonschema finds it of the schema, where they are installed."""

@@ -1,10 +1,9 @@
 -- What stands on the program's streams once a command was done, and at a fault.
-use Rattle.std.specs.Prelude.{◌≡◌, ◌≢◌, ◌⊎◌, ◌++◌, [], ℕ, List, map, codes, MatchResult, Option, Some, None}
+use Rattle.std.specs.Prelude.{◌≡◌, ◌⊎◌, ◌++◌, [], ℕ, List, map, codes, MatchResult, Option, Some, None}
 use Rattle.club_commands.specs.Basis.{Bor, Stream, TakesPrefix, IsUntouched, ServeFault, StreamFault, NoMemory, Ranking, Games}
-use Rattle.clap.specs.Words.{fault_of}
 use Rattle.bridge_cards.specs.Board.{dealer_of}
 use Rattle.auction_command.specs.Heard.{AnswersAll, StopsAt}
-use Rattle.command_line.specs.Words.{club_app, AsksCommand}
+use Rattle.command_line.specs.Words.{AsksCommand, AreRefused}
 use Rattle.command_line.specs.declared.command.WebWords.{WebWords}
 use Rattle.command_line.specs.declared.command.Command.{Command}
 use Rattle.command_line.specs.declared.command.Command.TheVariants.{Auction, Format, Script, Correct, Serve, Web, Rank, Pbn, Results, Export, Check, Plan, Draft, Slips, Evening, Makeable, Copy, Version}
@@ -78,9 +77,9 @@ abbrev pub RefusesWords : WordsFault → ℕ → Stream → Type 0
 RefusesWords (Usage error) status errors = status ≡ 2
 RefusesWords Memory status errors = (status ≡ 3) × TakesPrefix errors (store_line NoMemory)
 
--- the words are no command, or call for help, and nothing was read or written
+-- the words are no command, exclude each other, or call for help, and nothing was read or written
 abbrev pub IsUsage : List (Bor (List ℕ)) → Stream → Stream → Type 0
-IsUsage words input output = (fault_of club_app (map (λ word. word.now) words) ≢ []) × IsUntouched input × IsUntouched output
+IsUsage words input output = AreRefused (map (λ word. word.now) words) × IsUntouched input × IsUntouched output
 
 -- over the words after the program's name, and the standard streams
 module _ (words : List (Bor (List ℕ))) (input output errors : Stream) where

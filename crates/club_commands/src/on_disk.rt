@@ -58,7 +58,10 @@ fn do_work<S: Host, R: Read, W: Write>(
             let progress = Progress::on(rt.errors());
             results_over(alloc, progress, page, names, disk, output)
         }
-        Work::Export(asked) => export_over(alloc, asked, disk, output),
+        Work::Export(asked) => {
+            let progress = Progress::on(rt.errors());
+            export_over(alloc, progress, asked, disk, output)
+        }
         Work::Check => check_over(alloc, disk, output),
         Work::Format(session) => format_disk(disk, session, output),
     }

@@ -132,7 +132,7 @@ fn words_of(alloc: Global, text: &str) -> Result<Vec<&str>, AllocError> {
 
 /// Each command with its words. Numbers are taken from the least to the most, a sign and zeros before them too, and the
 /// options before, between and behind the other words.
-static COMMANDS: [&str; 37] = [
+static COMMANDS: [&str; 40] = [
     "auction 1",
     "auction 36",
     "auction +7",
@@ -169,6 +169,9 @@ static COMMANDS: [&str; 37] = [
     "export club.disk",
     "export club.disk --rankings",
     "export --json club.disk",
+    "export club.disk --csv --rankings",
+    "export club.disk --pbn",
+    "export --no-analysis club.disk --pbn",
     "version",
 ];
 
@@ -183,7 +186,7 @@ fn words_of_commands_are_taken(rt: HostRuntime) -> Result<(), Fail> {
 }
 
 /// Words, and behind `: ` how what is written of them begins.
-static OTHER_WORDS: [&str; 26] = [
+static OTHER_WORDS: [&str; 29] = [
     "format club.disk: error: the following required arguments were not provided:\n  <CONFIG>\n",
     "rank: error: the following required arguments were not provided:\n  <DISK>\n",
     "auction: error: the following required arguments were not provided:\n  <BOARD>\n",
@@ -206,6 +209,9 @@ static OTHER_WORDS: [&str; 26] = [
     "rank club.disk --names a: error: unexpected argument '--names' found\n",
     "draft: error: the following required arguments were not provided:\n  <NAMES>\n",
     "draft a --boards 37: error: invalid value '37' for '--boards <N>': 37 is not in 1..=36\n",
+    "export a --rankings --json: error: the arguments '--csv', '--json' and '--pbn' cannot be used together, nor '--rankings' with",
+    "export a --pbn --rankings: error: the arguments '--csv', '--json' and '--pbn' cannot be used together, nor '--rankings' with",
+    "export a --csv --pbn: error: the arguments '--csv', '--json' and '--pbn' cannot be used together, nor '--rankings' with",
     "auctions 1: error: unrecognized subcommand 'auctions'\n",
     ": error: 'bridge_club' requires a subcommand but one was not provided\n",
     "--help: The server of a duplicate bridge club\n",

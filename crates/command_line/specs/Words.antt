@@ -1,5 +1,5 @@
 -- The command line, in the words of clap.
-use Rattle.std.specs.Prelude.{◌≡◌, ◌≢◌, ℕ, Bool, List, [], ◌∷◌, Option, None, Some, Ok, IfOk, pos, true, false, codes, option_map}
+use Rattle.std.specs.Prelude.{◌≡◌, ◌≢◌, ◌⊎◌, ◌||◌, if◌then◌else◌, ℕ, Bool, List, [], ◌∷◌, Option, None, Some, Ok, IfOk, pos, true, false, codes, option_map}
 use Rattle.std.specs.Borrow.{Bor}
 use Rattle.std.specs.Str.Parse.{ParsesUnsigned}
 use Rattle.std.specs.declared.num.ParseIntError.{ParseIntError}
@@ -17,6 +17,9 @@ use Rattle.command_line.specs.declared.command.WebWords.{WebWords}
 use Rattle.command_line.specs.declared.command.DraftWords.{DraftWords}
 use Rattle.command_line.specs.declared.command.SlipWords.{SlipWords}
 use Rattle.command_line.specs.declared.command.EveningWords.{EveningWords}
+use Rattle.command_line.specs.declared.command.ExportAsked.{ExportAsked}
+use Rattle.command_line.specs.declared.command.ExportAsked.TheVariants.{Plays, Rankings, Object, Games}
+use Rattle.command_line.specs.declared.export_read.ExportFlags.{ExportFlags}
 use Rattle.command_line.specs.declared.command.WordsFault.{WordsFault}
 use Rattle.command_line.specs.declared.command.WordsFault.TheVariants.{Usage, Memory}
 
@@ -240,9 +243,14 @@ rankings_rule = flag_rule (codes "rankings")
 abbrev pub json_rule : Rule
 json_rule = flag_rule (codes "json")
 
--- the command `export DISK`, with those flags or without
+-- the flag `--csv`
+abbrev pub csv_rule : Rule
+csv_rule = flag_rule (codes "csv")
+
+-- the command `export DISK`, with those flags, `--pbn` and `--no-analysis` or without
 abbrev pub export_app : App
-export_app = with_rule (with_rule (disk_app (codes "export")) rankings_rule) json_rule
+export_app =
+    with_rules (disk_app (codes "export")) (csv_rule ∷ rankings_rule ∷ json_rule ∷ pbn_rule ∷ no_analysis_rule ∷ [])
 
 -- the argument DISK2
 abbrev pub second_disk_rule : Rule
@@ -325,6 +333,34 @@ abbrev pub HasEvening : List Row → EveningWords → Type 0
 HasEvening rows words = HasText rows (codes "NAMES") words.names.now × HasText rows (codes "DISK") words.disk.now
     × HasWishes rows words.wishes × HasHost rows words.host × HasNumber 16 rows (codes "MINUTES") words.minutes
 
+-- the flags of `export` that are given
+abbrev pub HasFlags : List Row → ExportFlags → Type 0
+HasFlags rows flags = HasFlag rows (codes "csv") flags.csv × HasFlag rows (codes "json") flags.json × HasFlag rows (codes "pbn") flags.pbn
+    × HasFlag rows (codes "rankings") flags.rankings × HasFlag rows (codes "no-analysis") flags.no_analysis
+
+-- rankings or plays
+abbrev pub values_asked : Bool → ExportAsked
+values_asked rankings = if rankings then Rankings else Plays
+
+-- what they ask for, by `--json` and `--pbn`: each of these excludes the other, `--csv` and `--rankings`
+abbrev pub form_asked : Bool → Bool → ExportFlags → Option ExportAsked
+form_asked false false flags = Some (values_asked flags.rankings)
+form_asked true false flags = if flags.csv || flags.rankings then None else Some Object
+form_asked false true flags = if flags.csv || flags.rankings then None else Some (Games flags.no_analysis)
+form_asked true true flags = None
+
+-- what they ask for, if they do not exclude each other
+abbrev pub export_asked : ExportFlags → Option ExportAsked
+export_asked flags = form_asked flags.json flags.pbn flags
+
+-- the flags that are given ask for this
+abbrev pub HasExport : List Row → ExportAsked → Type 0
+HasExport rows asked = (flags : ExportFlags) × HasFlags rows flags × (export_asked flags ≡ Some asked)
+
+-- the flags that are given exclude each other
+abbrev pub IsExcluded : List Row → Type 0
+IsExcluded rows = (flags : ExportFlags) × HasFlags rows flags × (export_asked flags ≡ None)
+
 -- the arguments are those of a command
 abbrev pub HasWords : List Row → Command → Type 0
 HasWords rows (Auction board) = HasNumber 8 rows (codes "BOARD") board
@@ -344,8 +380,7 @@ HasWords rows (Draft names wishes) = HasText rows (codes "NAMES") names.now × H
 HasWords rows (Slips config slips) = HasText rows (codes "CONFIG") config.now × HasSlips rows slips
 HasWords rows (Evening words) = HasEvening rows words
 HasWords rows (Makeable file pbn) = HasText rows (codes "FILE") file.now × HasFlag rows (codes "pbn") pbn
-HasWords rows (Export disk asked) = HasText rows (codes "DISK") disk.now × HasFlag rows (codes "rankings") asked.rankings
-    × HasFlag rows (codes "json") asked.json
+HasWords rows (Export disk asked) = HasText rows (codes "DISK") disk.now × HasExport rows asked
 HasWords rows (Copy disk copy) = HasText rows (codes "DISK") disk.now × HasText rows (codes "DISK2") copy.now
 HasWords rows Version = Unit {0}
 
@@ -383,7 +418,21 @@ IsCommand (Some named) command = IsNamed named.0 named.1 command
 abbrev pub AsksCommand : List Text → Command → Type 0
 AsksCommand texts words = (fault_of club_app texts ≡ []) × IsCommand (subcommand_of club_app texts) words
 
--- clap finds a fault in the texts, or memory was refused
+-- the command is `export`, and its flags exclude each other
+abbrev pub HasConflict : Option (Text × List Row) → Type 0
+HasConflict None = ⊥
+HasConflict (Some named) = (named.0 ≡ codes "export") × IsExcluded named.1
+
+-- why a subcommand and its arguments are no command: flags exclude each other, or memory was refused
+abbrev pub IsUnasked : Option (Text × List Row) → WordsFault → Type 0
+IsUnasked named (Usage error) = HasConflict named
+IsUnasked named Memory = Unit {0}
+
+-- clap finds a fault in the texts, or flags of `export` exclude each other
+abbrev pub AreRefused : List Text → Type 0
+AreRefused texts = (fault_of club_app texts ≢ []) ⊎ HasConflict (subcommand_of club_app texts)
+
+-- the texts are refused, or memory was
 abbrev pub IsRefusedBy : List Text → WordsFault → Type 0
-IsRefusedBy texts (Usage error) = fault_of club_app texts ≢ []
+IsRefusedBy texts (Usage error) = AreRefused texts
 IsRefusedBy texts Memory = Unit {0}

@@ -1,5 +1,5 @@
 //! The arguments of the commands, as they are declared to clap.
-ghost use Rattle.command_line.specs.Words.{IsRuled, required_rule, number_rule, flag_rule, option_rule, default_rule, board_rule, disk_rule, other_disk_rule, second_disk_rule, config_rule, file_rule, port_rule, count_rule, minutes_rule, address_rule, name_rule, open_boards_rule, copy_rule, html_rule, no_analysis_rule, rankings_rule, json_rule, pbn_rule};
+ghost use Rattle.command_line.specs.Words.{IsRuled, required_rule, number_rule, flag_rule, option_rule, default_rule, board_rule, disk_rule, other_disk_rule, second_disk_rule, config_rule, file_rule, port_rule, count_rule, minutes_rule, address_rule, name_rule, open_boards_rule, copy_rule, html_rule, no_analysis_rule, csv_rule, rankings_rule, json_rule, pbn_rule};
 
 use clap::builder::ValueParser;
 use clap::{Arg, ArgAction};
@@ -106,7 +106,29 @@ pub fn json_argument<'a>(alloc: Global) -> Arg<'a>
     flag(alloc, "json", "All the results as one object of JSON")
 }
 
-/// The flag `--pbn`.
+/// The flag `--csv`.
+pub fn csv_argument<'a>(alloc: Global) -> Arg<'a>
+    ensures { IsRuled csv_rule result }
+{
+    flag(
+        alloc,
+        "csv",
+        "The plays as comma-separated values, as without a word",
+    )
+}
+
+/// The flag `--pbn` of `export`.
+pub fn games_argument<'a>(alloc: Global) -> Arg<'a>
+    ensures { IsRuled pbn_rule result }
+{
+    flag(
+        alloc,
+        "pbn",
+        "A game of Portable Bridge Notation for each board, with all its results",
+    )
+}
+
+/// The flag `--pbn` of `makeable`.
 pub fn pbn_argument<'a>(alloc: Global) -> Arg<'a>
     ensures { IsRuled pbn_rule result }
 {

@@ -111,8 +111,8 @@ pub enum Command<'a> {
         /// Whether `--pbn` is among the words.
         pbn: bool,
     },
-    /// `export DISK`: the plays of the session that a disk holds, or with `--rankings` its rankings, as comma-separated values; or with
-    /// `--json` all its results as one object of JSON.
+    /// `export DISK [--csv|--json|--pbn] [--rankings] [--no-analysis]`: the results of the session that a disk holds, for other
+    /// programs.
     Export {
         /// DISK, the name of the disk's file.
         disk: &'a str,
@@ -132,11 +132,18 @@ pub enum Command<'a> {
 
 /// What `export` prints.
 #[derive(Clone, Copy, Debug, PartialEq, Eq)]
-pub struct ExportAsked {
-    /// Whether `--rankings` is among the words.
-    pub rankings: bool,
-    /// Whether `--json` is.
-    pub json: bool,
+pub enum ExportAsked {
+    /// The plays as comma-separated values; `--csv` may be among the words.
+    Plays,
+    /// With `--rankings`: the rankings as such values, likewise.
+    Rankings,
+    /// With `--json`: all results as one object.
+    Object,
+    /// With `--pbn`: a game in Portable Bridge Notation for each board.
+    Games {
+        /// Whether `--no-analysis` is among the words: they have no word of what could be made on a board.
+        no_analysis: bool,
+    },
 }
 
 /// Where the pages of `web` are shown, by which name, and how they begin.

@@ -4,10 +4,10 @@ ghost use Rattle.clap.specs.Words.{app_of};
 ghost use Rattle.command_line.specs.Words.{IsDeclared, auction_app, format_app, script_app, serve_app, web_app, rank_app, pbn_app, results_app, check_app, plan_app, correct_app, bare_app, makeable_app, export_app, copy_app, version_app, club_app};
 
 use crate::arguments::{
-    address_argument, board_argument, config_argument, copy_argument, count_argument,
-    disk_argument, file_argument, html_argument, json_argument, minutes_argument, name_argument,
-    no_analysis_argument, open_boards_argument, other_disk_argument, pbn_argument, port_argument,
-    rankings_argument, second_disk_argument,
+    address_argument, board_argument, config_argument, copy_argument, count_argument, csv_argument,
+    disk_argument, file_argument, games_argument, html_argument, json_argument, minutes_argument,
+    name_argument, no_analysis_argument, open_boards_argument, other_disk_argument, pbn_argument,
+    port_argument, rankings_argument, second_disk_argument,
 };
 use crate::declared::Declared;
 use crate::evening_arguments::names_option;
@@ -226,18 +226,21 @@ fn makeable_command<'a>(alloc: Global) -> Declared<'a>
     .argument(pbn_argument(alloc))
 }
 
-/// The command `export DISK`, with `--rankings`, with `--json`, or with neither.
-fn export_command<'a>(alloc: Global) -> Declared<'a>
+/// The command `export DISK`, with flags that say what is printed, or without.
+pub fn export_command<'a>(alloc: Global) -> Declared<'a>
     ensures { IsDeclared export_app result }
 {
     Declared::new(
         alloc,
         "export",
-        "Prints the plays of the session on a disk as comma-separated values, or all as JSON",
+        "Prints the results of the session on a disk for other programs",
     )
     .argument(disk_argument(alloc))
+    .argument(csv_argument(alloc))
     .argument(rankings_argument(alloc))
     .argument(json_argument(alloc))
+    .argument(games_argument(alloc))
+    .argument(no_analysis_argument(alloc))
 }
 
 /// The command `version`.

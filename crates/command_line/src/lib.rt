@@ -13,6 +13,7 @@ mod declared;
 mod evening_arguments;
 mod evening_declaration;
 mod evening_read;
+mod export_read;
 mod read;
 
 pub use command::{

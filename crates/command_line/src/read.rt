@@ -3,9 +3,10 @@ ghost use Rattle.std.specs.Prelude.{IfOk, IfErr, IfSome, codes, map};
 ghost use Rattle.clap.specs.Words.{rows_of, found_of, subcommand_rows_of};
 ghost use Rattle.command_line.specs.Words.{HasNumber, HasFlag, HasOption, HasHost, HasPages, IsCommand, IsNamed, AsksCommand, IsRefusedBy};
 
-use crate::command::{Command, ExportAsked, PageAsked, WebHost, WebWords, WordsFault};
+use crate::command::{Command, PageAsked, WebHost, WebWords, WordsFault};
 use crate::declaration::club_command;
 use crate::evening_read::{draft_of, evening_of, slips_of};
+use crate::export_read::{export_of, unasked};
 use bridge_cards::BoardNumber;
 use clap::ArgMatches;
 use clap::error::ErrorKind;
@@ -13,8 +14,8 @@ use std::alloc::Global;
 
 /// Reads a command from the words after the program's name.
 ///
-/// `Usage` where they are no command or call for help, and `Memory` where memory is refused; no clause says that `Memory`
-/// comes only there.
+/// `Usage` where they are no command, where flags of `export` exclude each other, or where they call for help, and `Memory` where
+/// memory is refused; no clause says that `Memory` comes only there.
 pub fn read_words<'a>(alloc: Global, words: &'a [&'a str]) -> Result<Command<'a>, WordsFault>
     ensures ok { IfOk result (AsksCommand (map (λ word. word.now) words.entry.now)) }
     ensures fault { IfErr result (IsRefusedBy (map (λ word. word.now) words.entry.now)) }
@@ -26,7 +27,7 @@ pub fn read_words<'a>(alloc: Global, words: &'a [&'a str]) -> Result<Command<'a>
     match command.try_get_matches_from(words) {
         Ok(matches) => match asked(&matches) {
             Some(command) => Ok(command),
-            None => Err(WordsFault::Memory),
+            None => Err(unasked(alloc, &matches)),
         },
         Err(error) => match error.kind() {
             ErrorKind::OutOfMemory => Err(WordsFault::Memory),
@@ -212,17 +213,6 @@ pub fn has_flag(found: &ArgMatches<'_>, name: &str) -> bool
     ensures { HasFlag (rows_of (found_of found.now)) name.now result }
 {
     found.get_flag(name)
-}
-
-/// The command `export` with its disk, and whether it asks for rankings or for JSON.
-fn export_of<'a>(found: &ArgMatches<'a>) -> Option<Command<'a>>
-    ensures { IfSome result (IsNamed (codes "export") (rows_of (found_of found.now))) }
-{
-    let disk = found.get_str("DISK")?;
-    let rankings = has_flag(found, "rankings");
-    let json = has_flag(found, "json");
-    let asked = ExportAsked { rankings, json };
-    Some(Command::Export { disk, asked })
 }
 
 /// The command `check` with its disk, and with a second one or none.
