@@ -9,7 +9,9 @@ use Rattle.clap.specs.declared.error.Error.{Error}
 use Rattle.clap.specs.declared.error.kind.ErrorKind.TheVariants.{OutOfMemory}
 use Rattle.clap.specs.declared.parser.matches.ArgMatches.{ArgMatches}
 use Rattle.command_line.specs.declared.command.Command.{Command}
-use Rattle.command_line.specs.Words.{club_app, IsCommand, AsksCommand}
+use Rattle.command_line.specs.declared.command.WordsFault.{WordsFault}
+use Rattle.command_line.specs.declared.command.WordsFault.TheVariants.{Usage, Memory}
+use Rattle.command_line.specs.Words.{club_app, IsCommand, AsksCommand, HasConflict, IsUnasked, IsRefusedBy}
 
 -- the program's command line is one whose matches and faults are known
 simple : (app : App) → app ≡ club_app → is_simple app ≡ true
@@ -37,3 +39,10 @@ refuses app texts error is fails other none =
       | inl memory ↦ other memory
       | inr among ↦ subst (IsAmong (kind_of error)) (ap (λ (a : App). fault_of a texts) is ∙ none) among
     ]
+
+-- matches that name no command have flags that exclude each other, or memory was refused
+pub unasked : (app : App) (texts : List Text) (matches : ArgMatches) (fault : WordsFault) → app ≡ club_app → HasMatchesOf app texts matches
+    → IsUnasked (subcommand_rows_of matches) fault → IsRefusedBy texts fault
+unasked app texts matches (Usage error) is matched conflict =
+    inr (subst (λ found. HasConflict found) ((matched (simple app is)).1 ∙ ap (λ (a : App). subcommand_of a texts) is) conflict)
+unasked app texts matches Memory is matched none = tt
