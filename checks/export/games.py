@@ -65,6 +65,12 @@ def games_of(text):
     demand(game is None, "no empty line behind the last game")
 
 
+def optimum_of(text):
+    """What could be made by the games of a text: of each board that tells, its par score, and the tricks of all declarers."""
+    games = [(dict(tags), tables) for tags, tables in games_of(text)]
+    return [(tags["Board"], tags["OptimumScore"], tables["OptimumResultTable"].rows) for tags, tables in games if "OptimumScore" in tags]
+
+
 def score_row(play):
     """The row of a line of `export DISK`."""
     _, row_round, table, ns, ew, contract, declarer, lead, tricks, score, ns_gain, ew_gain = play
@@ -81,33 +87,29 @@ def total_row(two, ranked, scoring):
 
 
 def compare(text, plays, rankings, results):
-    """Demands that the games are those of the plays, the rankings and the object that `export` prints."""
+    """Demands that the games, without what could be made, are those of the plays, the rankings and the object that `export` prints."""
     event = results["event"]
     scoring = {"matchpoints": "MP", "imps": "IMP"}[event["scoring"]]
     boards = list(dict.fromkeys(play[0] for play in plays))
     games = list(games_of(text))
     demand([dict(tags)["Board"] for tags, _ in games] == boards, "games of other boards")
-    solved = []
     for at, (tags, tables) in enumerate(games):
         board = results["boards"][int(boards[at]) - 1]
         values = [event["event"], event["site"], event["date"], boards[at], "", "", "", "", board["dealer"], board["vulnerable"], board["deal"] or "", scoring, "", "", ""]
         demand(tags[:15] == list(zip(TAGS, values)), f"the tags of board {boards[at]}")
         names = [name for name, _ in tags[15:]]
-        demand(names == (["OptimumScore", "OptimumResultTable"] if "OptimumScore" in names else []) + ["ScoreTable"] + (["TotalScoreTable"] if at == 0 else []), f"tags {names}")
+        demand(names == ["ScoreTable"] + ["TotalScoreTable"] * (at == 0), f"tags {names}")
         scores = tables["ScoreTable"]
         demand(scores.columns == PLAYED + [f"{scoring}_NS", f"{scoring}_EW"], f"columns {scores.columns}")
         demand([width for width, _ in scores.widths] == [2, 2, 2, 2, 5, 1, 2, 2, 6, 6, 6], "widths of scores")
         demand("".join(side for _, side in scores.widths) == "RRRRLLRLRRR", "sides of scores")
         demand(scores.rows == [score_row(play) for play in plays if play[0] == boards[at]], f"the scores of board {boards[at]}")
-        if "OptimumScore" in names:
-            solved.append((board["deal"], boards[at], dict(tags)["OptimumScore"], tables["OptimumResultTable"]))
     if games:
         totals = games[0][1]["TotalScoreTable"]
         two = any(ranked[0] == "2" for ranked in rankings)
         demand(totals.columns == ["Section", "Rank", "PairId", *(["TotalScoreMP", "TotalPercentage"] if scoring == "MP" else ["TotalIMP"]), "Names"], f"columns {totals.columns}")
         demand(totals.widths[:-1] == [(1, "L"), (2, "R"), (2, "R"), *[(6, "R")] * (len(totals.widths) - 4)] and totals.widths[-1] == (0, "L"), "widths of totals")
         demand(totals.rows == [total_row(two, ranked, scoring) for ranked in rankings], "the totals")
-    return solved
 
 
 def changed(text):
@@ -122,11 +124,10 @@ def changed(text):
 
 def compare_strictly(text, plays, rankings, results):
     """The same, and that each changed text is found to be another."""
-    solved = compare(text, plays, rankings, results)
-    for other in changed(text) if not solved else []:
+    compare(text, plays, rankings, results)
+    for other in changed(text):
         try:
             compare(other, plays, rankings, results)
         except (Differs, KeyError, IndexError, ValueError):
             continue
         raise Differs(f"a changed text is taken: {other}")
-    return solved

@@ -128,16 +128,13 @@ class Reader:
         return results
 
     def solve(self, disk, folder):
-        """What could be made stands in the games, as `makeable` finds it for their deals."""
+        """How many boards have what could be made in the games: as `makeable` finds it for their deals."""
         deals = os.path.join(folder, "read.pbn")
         with open(deals, "w", encoding="ascii") as file:
-            file.write(self.run("export", disk, "--pbn", "--no-analysis"))
-        found = notation.games_of(self.run("makeable", deals, "--pbn"))
-        wanted = [(dict(tags)["Board"], dict(tags)["OptimumScore"], tables["OptimumResultTable"].rows) for tags, tables in found]
-        games = notation.games_of(self.run("export", disk, "--pbn"))
-        told = [(dict(tags)["Board"], dict(tags)["OptimumScore"], tables["OptimumResultTable"].rows) for tags, tables in games]
-        demand(told == wanted, "it has something else of what could be made")
-        return len(told)
+            file.write(self.run("export", disk, "--pbn", "--no-analysis").replace('[Deal ""]\n', ""))
+        wanted = notation.optimum_of(self.run("makeable", deals, "--pbn"))
+        demand(notation.optimum_of(self.run("export", disk, "--pbn")) == wanted, "something else could be made")
+        return len(wanted)
 
     def by_others(self, written, results):
         """jq reads the same, and jsonschema finds it of the schema, where they are installed."""
@@ -189,14 +186,15 @@ def sessions(reader, folder, examples):
 
 
 def main(program, folder, examples, schema):
-    reader, plays, status = Reader(program, schema), 0, 0
+    reader, plays, solved, status = Reader(program, schema), 0, 0, 0
     for name, disk in sessions(reader, folder, examples):
         try:
             plays += sum(len(board["plays"]) for board in reader.read(disk)["boards"])
+            solved += reader.solve(disk, folder)
         except Differs as found:
             print(f"{name}: {found}")
             status = 1
-    print(f"{plays} plays read")
+    print(f"{plays} plays read, {solved} boards solved")
     return status
 
 

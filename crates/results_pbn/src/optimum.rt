@@ -2,6 +2,7 @@
 ghost use Rattle.std.specs.Prelude.{◌≡◌, ◌≤◌, ◌+◌, ◌++◌, length};
 ghost use Rattle.arrayvec.specs.ArrayVec.{array_vec_len};
 ghost use Rattle.line_text.specs.Streams.{stream, Written};
+ghost use Rattle.bridge_results.specs.MakeableText.{makeable_on};
 ghost use Rattle.makeable_deals.specs.Games.{in_two, result_row, result_rows, score_tag, table_tag};
 ghost use Rattle.results_pbn.specs.Optimum.{optimum_tags, known_tags};
 
@@ -105,6 +106,16 @@ fn write_optimum<W: Write>(
     ensures { Written (stream W.contents writer.old writer.new) (optimum_tags board known.now.table) result }
 {
     write_text(writer, optimum_tags(board, known).as_slice())
+}
+
+/// What could be made on a board, if it is known.
+pub fn makeable_on(boards: &[Option<Makeable>], board: BoardNumber) -> Option<Makeable>
+    ensures { result ≡ makeable_on boards.now board }
+{
+    match boards.get(usize::from(board.number() - 1)) {
+        Some(found) => *found,
+        None => None,
+    }
 }
 
 /// Writes what could be made on a board, if it is known.

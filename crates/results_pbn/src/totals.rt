@@ -12,10 +12,9 @@ use bridge_cards::{BoardNumber, Scoring};
 use bridge_config::{Config, PairFields, pair_names};
 use bridge_ranking::Field;
 use bridge_results::TablePlay;
-use bridge_results::pages::ranking::{imps_cell, points_cell};
 use bridge_score::{Ranked, share_percent};
 use bridge_session::Ranking;
-use line_text::{number_text, percent_text, write_text};
+use line_text::{number_text, percent_text, signed_text, tenths_text, write_text};
 use page_layout::{PageText, push_bytes};
 use std::io::{Error, Write};
 
@@ -82,7 +81,7 @@ fn share_cells(ranked: &Ranked) -> PageText
     ensures cells { result.items ≡ value_cells MatchPoints ranked.now }
     ensures short { array_vec_len result ≤ 300 }
 {
-    let value = points_cell(ranked);
+    let value = tenths_text(u64::from(ranked.value.unsigned_abs()));
     let percent = percent_text(share_percent(ranked));
     let mut text = PageText::new();
     push_right_cell(&mut text, 6, value.as_str().as_bytes());
@@ -96,7 +95,7 @@ fn sum_cells(ranked: &Ranked) -> PageText
     ensures cells { result.items ≡ value_cells Imps ranked.now }
     ensures short { array_vec_len result ≤ 300 }
 {
-    let value = imps_cell(ranked);
+    let value = signed_text(i64::from(ranked.value));
     let mut text = PageText::new();
     push_right_cell(&mut text, 6, value.as_str().as_bytes());
     text
@@ -129,7 +128,13 @@ fn names_cell(pairs: &[PairFields], pair: u8) -> PageText
 
 /// The row of a pair.
 #[tactic(auto, unfolding(crate::specs::Totals::total_row))]
-fn total_row(two: bool, scoring: Scoring, pairs: &[PairFields], field: Field, ranked: &Ranked) -> PageText
+fn total_row(
+    two: bool,
+    scoring: Scoring,
+    pairs: &[PairFields],
+    field: Field,
+    ranked: &Ranked,
+) -> PageText
     ensures { result.items ≡ total_row two scoring (map pair_of pairs.now) field ranked.now }
 {
     let mut text = place_cells(two, field, ranked);
@@ -207,8 +212,10 @@ fn total_columns(scoring: Scoring) -> &'static [u8]
     ensures { result.now ≡ total_columns scoring }
 {
     match scoring {
-        Scoring::MatchPoints => b"[TotalScoreTable \"Section\\1L;Rank\\2R;PairId\\2R;TotalScoreMP\\6R;TotalPercentage\\6R;Names\"]\n",
-        Scoring::Imps => b"[TotalScoreTable \"Section\\1L;Rank\\2R;PairId\\2R;TotalIMP\\6R;Names\"]\n",
+        Scoring::MatchPoints =>
+            b"[TotalScoreTable \"Section\\1L;Rank\\2R;PairId\\2R;TotalScoreMP\\6R;TotalPercentage\\6R;Names\"]\n",
+        Scoring::Imps =>
+            b"[TotalScoreTable \"Section\\1L;Rank\\2R;PairId\\2R;TotalIMP\\6R;Names\"]\n",
     }
 }
 
