@@ -2,7 +2,7 @@
 use bridge_cards::BoardNumber;
 
 /// What page of results is asked for.
-#[derive(Clone, Copy, Debug, PartialEq, Eq)]
+#[derive(Clone, Copy)]
 pub struct PageAsked {
     /// Whether `--html` is among the words: it is of HTML, and not of plain text.
     pub html: bool,
@@ -11,7 +11,7 @@ pub struct PageAsked {
 }
 
 /// A command with its words.
-#[derive(Clone, Copy, Debug, PartialEq, Eq)]
+#[derive(Clone, Copy)]
 pub enum Command<'a> {
     /// `auction BOARD`: one board's auction, from standard input.
     Auction(BoardNumber),
@@ -131,7 +131,7 @@ pub enum Command<'a> {
 }
 
 /// What `export` prints.
-#[derive(Clone, Copy, Debug, PartialEq, Eq)]
+#[derive(Clone, Copy)]
 pub enum ExportAsked {
     /// The plays as comma-separated values; `--csv` may be among the words.
     Plays,
@@ -147,7 +147,7 @@ pub enum ExportAsked {
 }
 
 /// Where the pages of `web` are shown, by which name, and how they begin.
-#[derive(Clone, Copy, Debug, PartialEq, Eq)]
+#[derive(Clone, Copy)]
 pub struct WebHost<'a> {
     /// The port to listen at.
     pub port: u16,
@@ -160,7 +160,7 @@ pub struct WebHost<'a> {
 }
 
 /// What the command `web` shows over a disk.
-#[derive(Clone, Copy, Debug, PartialEq, Eq)]
+#[derive(Clone, Copy)]
 pub struct WebWords<'a> {
     /// Where the pages are shown.
     pub host: WebHost<'a>,
@@ -173,7 +173,7 @@ pub struct WebWords<'a> {
 }
 
 /// What is wished of an evening.
-#[derive(Clone, Copy, Debug, PartialEq, Eq)]
+#[derive(Clone, Copy)]
 pub struct DraftWords<'a> {
     /// The name of the movement that is played, in place of the one that suits the number of pairs. It may be no name.
     pub movement: Option<&'a str>,
@@ -192,7 +192,7 @@ pub struct DraftWords<'a> {
 }
 
 /// How slips are written.
-#[derive(Clone, Copy, Debug, PartialEq, Eq)]
+#[derive(Clone, Copy)]
 pub struct SlipWords<'a> {
     /// The file with the names as people write them, in place of the configuration's names.
     pub names: Option<&'a str>,
@@ -203,7 +203,7 @@ pub struct SlipWords<'a> {
 }
 
 /// What the command `evening` is given.
-#[derive(Clone, Copy, Debug, PartialEq, Eq)]
+#[derive(Clone, Copy)]
 pub struct EveningWords<'a> {
     /// NAMES, the name of the list's file.
     pub names: &'a str,
@@ -218,7 +218,7 @@ pub struct EveningWords<'a> {
 }
 
 /// Why the words ask for no command.
-#[derive(Debug, Drop)]
+#[derive(Drop)]
 pub enum WordsFault {
     /// The words are no command, or call for help: clap's error, with the text to show.
     Usage(clap::Error),

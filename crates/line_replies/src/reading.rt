@@ -25,9 +25,7 @@ pub fn read_piece<R: Read>(
     ensures fault { IfErr result (λ fault. fault ≡ ReadFault) }
 {
     let room = piece.len().min(most);
-    reader
-        .read(&mut piece[..room])
-        .or(Err(ServeFault::Read))
+    reader.read(&mut piece[..room]).or(Err(ServeFault::Read))
 }
 
 /// What stands before the last line.

@@ -56,9 +56,7 @@ fn write_tags<W: Write>(
 ) -> Result<(), WriteFault>
     ensures { Written (stream W.contents writer.old writer.new) (deal_tags deal.now) result }
 {
-    let table = work
-        .solve(alloc, &deal.deal)
-        .or(Err(WriteFault::Memory))?;
+    let table = work.solve(alloc, &deal.deal).or(Err(WriteFault::Memory))?;
     write_piece(tags_with(deal, &table).as_slice(), writer)
 }
 

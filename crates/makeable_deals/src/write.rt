@@ -27,9 +27,7 @@ fn write_deal<W: Write>(
 ) -> Result<(), WriteFault>
     ensures { Written (stream W.contents writer.old writer.new) (deal_lines deal.now) result }
 {
-    let table = work
-        .solve(alloc, &deal.deal)
-        .or(Err(WriteFault::Memory))?;
+    let table = work.solve(alloc, &deal.deal).or(Err(WriteFault::Memory))?;
     write_text(writer, lines_with(deal, &table).as_slice()).or(Err(WriteFault::Write))
 }
 
