@@ -2,6 +2,7 @@
 mod games;
 mod html;
 mod makeable;
+mod notation;
 mod pages;
 mod script;
 mod tables;
