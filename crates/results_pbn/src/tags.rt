@@ -12,7 +12,7 @@ use bridge_cards::{
     BoardNumber, DEAL_BYTES, Deal, Scoring, dealer, print_deal, seat_text, vulnerability_of,
     vulnerability_text,
 };
-use bridge_config::{Config, ConfigFields};
+use bridge_config::Config;
 use line_text::{number_text, write_text};
 use page_layout::{PageText, push_bytes};
 use std::io::{Error, Write};
@@ -96,10 +96,10 @@ fn board_tags(board: BoardNumber, deal: Option<&Deal>, scoring: Scoring) -> Page
 }
 
 /// How the scores of a configuration are compared.
-fn scoring_of(fields: &ConfigFields) -> Scoring
-    ensures { result ≡ fields.now.scoring }
+fn scoring_of(config: &Config) -> Scoring
+    ensures { result ≡ config.now.scoring }
 {
-    fields.scoring
+    config.fields().scoring
 }
 
 /// All 15 tags.
@@ -114,7 +114,7 @@ fn head_text(config: &Config, board: BoardNumber, deal: Option<&Deal>) -> PageTe
     );
     push_bytes(
         &mut text,
-        board_tags(board, deal, scoring_of(config.fields())).as_slice(),
+        board_tags(board, deal, scoring_of(config)).as_slice(),
     );
     push_bytes(
         &mut text,
