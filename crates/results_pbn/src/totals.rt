@@ -1,5 +1,5 @@
 //! The table of the rankings.
-ghost use Rattle.std.specs.Prelude.{◌≡◌, ◌≤◌, ◌++◌, length, map, flat_map, List, Option};
+ghost use Rattle.std.specs.Prelude.{◌≡◌, ◌≤◌, ◌++◌, length, map, flat_map, is_some, List, Option};
 ghost use Rattle.arrayvec.specs.ArrayVec.{array_vec_len};
 ghost use Rattle.line_text.specs.Streams.{stream, Written};
 ghost use Rattle.bridge_config.specs.ConfigValue.{pair_of};
@@ -226,11 +226,18 @@ fn write_columns<W: Write>(config: &Config, writer: &mut W) -> Result<(), Error>
     write_text(writer, total_columns(config.fields().scoring))
 }
 
+/// Whether there are two fields.
+fn has_second(totals: &Totals) -> bool
+    ensures { result ≡ is_some (seen totals.now).second }
+{
+    totals.second.is_some()
+}
+
 /// Writes the table.
 fn write_table<W: Write>(config: &Config, totals: &Totals, writer: &mut W) -> Result<(), Error>
     ensures { Written (stream W.contents writer.old writer.new) (total_table config.now (seen totals.now)) result }
 {
-    let two = totals.second.is_some();
+    let two = has_second(totals);
     write_columns(config, writer)?;
     write_field(two, config, Field::First, &totals.first, writer)?;
     write_field(two, config, Field::Second, &totals.second, writer)
