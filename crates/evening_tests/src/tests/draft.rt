@@ -148,7 +148,7 @@ fn a_list_of_too_many_lines(rt: HostRuntime) {
     }
     let words = words_of(list.as_slice());
     assert!(&rt;
-        words.starts_with(b"line 1001\n"),
+        words.starts_with(b"line 1000\n"),
         "{:?}",
         str::from_utf8(words.as_slice())
     );
