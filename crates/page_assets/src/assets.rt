@@ -98,7 +98,7 @@ button:focus-visible, input:focus-visible, textarea:focus-visible, select:focus-
   display: inline-flex; justify-content: center; align-items: center; gap: .4rem;
 }
 :is(#bell, #menu, #last, #claim-open, #claim-button, #confirm.send, #agree, #refuse, #call-director, #my-boards, #between-boards, #menu-boards, [hidden] + #confirm, #print)::before, #onward::after,
-#desk > .note::before {
+#desk > .note::before, .disks li:not(.is-lost) .large::before {
   content: ""; flex: none; width: 1.25rem; height: 1.25rem; background: currentcolor; forced-color-adjust: none; -webkit-mask: var(--sign) center / contain no-repeat; mask: var(--sign) center / contain no-repeat;
 }
 #bell, #call-director, #desk > .note {
@@ -107,7 +107,7 @@ button:focus-visible, input:focus-visible, textarea:focus-visible, select:focus-
 #menu { --sign: url("data:image/svg+xml,%3Csvg xmlns='http://www.w3.org/2000/svg' viewBox='0 0 20 20' fill='none' stroke='%23000' stroke-width='1.8' stroke-linecap='round'%3E%3Cpath d='M3 5h14M3 10h14M3 15h14'/%3E%3C/svg%3E"); }
 #last { --sign: url("data:image/svg+xml,%3Csvg xmlns='http://www.w3.org/2000/svg' viewBox='0 0 20 20' fill='none' stroke='%23000' stroke-width='1.8' stroke-linejoin='round'%3E%3Cpath d='M7 3.5h9v13H7zM3.5 5v10'/%3E%3C/svg%3E"); }
 #claim-open, #claim-button { --sign: url("data:image/svg+xml,%3Csvg xmlns='http://www.w3.org/2000/svg' viewBox='0 0 20 20' fill='none' stroke='%23000' stroke-width='1.7' stroke-linejoin='round'%3E%3Cpath d='M4.5 18V2.5H16L13 6.7l3 4.3H4.5'/%3E%3C/svg%3E"); }
-#confirm.send, #agree { --sign: url("data:image/svg+xml,%3Csvg xmlns='http://www.w3.org/2000/svg' viewBox='0 0 20 20' fill='none' stroke='%23000' stroke-width='2' stroke-linecap='round' stroke-linejoin='round'%3E%3Cpath d='M3.5 10.5l4.5 4.5 8.5-10'/%3E%3C/svg%3E"); }
+#confirm.send, #agree, .disks .large { --sign: url("data:image/svg+xml,%3Csvg xmlns='http://www.w3.org/2000/svg' viewBox='0 0 20 20' fill='none' stroke='%23000' stroke-width='2' stroke-linecap='round' stroke-linejoin='round'%3E%3Cpath d='M3.5 10.5l4.5 4.5 8.5-10'/%3E%3C/svg%3E"); }
 #my-boards, #between-boards, #menu-boards, [hidden] + #confirm { --sign: url("data:image/svg+xml,%3Csvg xmlns='http://www.w3.org/2000/svg' viewBox='0 0 20 20' fill='none' stroke='%23000' stroke-width='1.7' stroke-linecap='round'%3E%3Cpath d='M7.5 5H17M7.5 10H17M7.5 15H17M3.5 5h.1M3.5 10h.1M3.5 15h.1'/%3E%3C/svg%3E"); }
 #print { --sign: url("data:image/svg+xml,%3Csvg xmlns='http://www.w3.org/2000/svg' viewBox='0 0 20 20' fill='none' stroke='%23000' stroke-width='1.6' stroke-linejoin='round'%3E%3Cpath d='M6 7V2.5h8V7M6 14H3V7h14v7h-3M6 11.5h8v6H6z'/%3E%3C/svg%3E"); }
 #onward { --sign: url("data:image/svg+xml,%3Csvg xmlns='http://www.w3.org/2000/svg' viewBox='0 0 20 20' fill='none' stroke='%23000' stroke-width='2' stroke-linecap='round' stroke-linejoin='round'%3E%3Cpath d='M7.5 4l6 6-6 6'/%3E%3C/svg%3E"); }
@@ -253,8 +253,8 @@ body.director main { max-width: 84rem; }
 .disks { display: grid; grid-template-columns: repeat(auto-fit, minmax(min(100%, 14rem), 1fr)); gap: .6rem; margin: .5rem 0; padding: 0; list-style: none; }
 .disks li { display: grid; align-content: start; padding: .5rem .75rem; border: 1px solid var(--line); border-left: .5rem solid var(--good); border-radius: .75rem; overflow-wrap: anywhere; font-size: .875rem; }
 .disks b { font-size: 1rem; }
-.disks .large { font-size: 1.125rem; }
-.disks .large::before { content: "\2713\a0"; color: var(--good); }
+.disks .large { display: flex; align-items: center; gap: .4rem; font-size: 1.375rem; }
+.disks li:not(.is-lost) .large::before { background: var(--good); }
 .disks .is-lost { border-color: var(--vul); }
 .disks .is-lost .large::before { content: "\2715\a0"; color: var(--bad); }
 #disks ol { margin: .2rem 0; padding-left: 1.3rem; }
@@ -277,7 +277,7 @@ body.director main { max-width: 84rem; }
 #deal, #shuffle { width: 100%; min-height: 3.25rem; margin-top: .4rem; }
 #on-rulings { display: grid; grid-template: "c" auto "h" auto "r" auto "p" auto "s" auto / minmax(0, 1fr); gap: 0 .75rem; align-items: start; }
 #ruling details { margin: 0; padding: 0; border-color: var(--line); }
-#ruling details[open] { padding-bottom: .5rem; }
+#ruling details[open] { padding-bottom: 1rem; }
 #ruling summary { min-height: 2.75rem; padding: .6rem 0; }
 .director .send { width: auto; }
 #end-round { width: 100%; min-height: 3.25rem; }
@@ -296,7 +296,7 @@ body.director main { max-width: 84rem; }
 .steps .large { min-width: 2.5rem; margin: 0; text-align: center; }
 .steps button { width: 3.25rem; min-height: 3.25rem; font-size: 1.5rem; line-height: 1; }
 #back-to { flex: 1 1 8rem; margin: 0 0 0 .4rem; }
-.action, #opened-back { width: 100%; min-height: 3.25rem; font-size: 1.0625rem; }
+.action, #opened-back { width: 100%; min-height: 3.25rem; margin-top: .5rem; font-size: 1.0625rem; }
 #opened-back:enabled { color: var(--on-blue); background: var(--blue); border-color: var(--blue); }
 /* Of the parts that are open the last has the blue button. */
 #ruling details:has(~ details[open]) :is(.send, #opened-back):enabled { color: inherit; background: var(--panel); border-color: var(--edge); }
@@ -365,7 +365,7 @@ body.director main { max-width: 84rem; }
   #dealing .subject:has(#shuffle) { grid-area: s; }
   #dealing .subject:has(#deal-file) { grid-area: f; }
   #dealing .subject:has(#undeal) { grid-area: u; }
-  #on-evening { display: grid; grid-template: "k p" auto "s p" 1fr "l l" auto / 1fr 1fr; gap: 0 .75rem; align-items: start; }
+  #on-evening { display: grid; grid-template: "k p" auto "k s" 1fr "l l" auto / 1fr 1fr; gap: 0 .75rem; align-items: start; }
   #keeping { grid-area: k; }
   #seeing { grid-area: s; }
   #publishing { grid-area: p; }
@@ -386,6 +386,7 @@ body.director main { max-width: 84rem; }
 #opened { display: contents; }
 #opened .hands { grid-area: h; }
 #opened .play { grid-area: p; }
+#opened .play h2 ~ h2 { margin-top: .75rem; }
 #opened .part { display: block; }
 #choosing { grid-area: c; }
 #ruling { grid-area: r; }
@@ -621,6 +622,8 @@ td.marked { outline: 2px dashed var(--blue); outline-offset: -2px; }
   .at-table:has(.said) #status:not(.lost) { position: absolute; width: 1px; height: 1px; margin: 0; padding: 0; overflow: hidden; clip-path: inset(50%); }
   .at-table:has(#desk:not(:empty), #notice:not(:empty)) { --th: 3.1rem; }
   .at-table:has(#desk:not(:empty), #notice:not(:empty)) :is(.at-left, .at-right) { --ch: 2.2rem; }
+  .at-table:has(#desk:not(:empty), #notice:not(:empty)) :is(.at-left, .at-right) .card { padding-top: 0; font-size: 1.0625rem; }
+  .at-table:has(#desk:not(:empty), #notice:not(:empty)) :is(.at-left, .at-right) .card .suit { margin: 0; font-size: .875rem; }
 }
 @media (max-width: 39.99em), (max-height: 30em) {
   .at-table #notice { padding: .2rem .75rem; font-size: .875rem; line-height: 1.25; }
@@ -630,6 +633,10 @@ td.marked { outline: 2px dashed var(--blue); outline-offset: -2px; }
   .at-table:has(#desk > .called) #status:not(.lost) { position: absolute; width: 1px; height: 1px; margin: 0; padding: 0; overflow: hidden; clip-path: inset(50%); }
 }
 @media (max-width: 39.99em), (max-height: 49.99em) { .at-table #notice:not(:empty) + #desk { display: none; } }
+@media (max-width: 39.99em) and (max-height: 49.99em) {
+  .at-table #desk > .note { font-size: .8125rem; }
+  .at-table #desk > .note::before { content: none; }
+}
 @media (max-width: 39.99em) and (min-height: 50em) { .at-table #desk > * { max-height: 3.6rem; } }
 @media (max-width: 39.99em) and (orientation: portrait) { .wide { display: none; } }
 @media (max-width: 39.99em) and (orientation: portrait) and (min-height: 50em) {
@@ -661,6 +668,7 @@ td.marked { outline: 2px dashed var(--blue); outline-offset: -2px; }
 }
 /* Telephones that lie across. */
 @media (orientation: landscape) and (max-height: 30em) {
+  #tabs { margin-bottom: 0; }
   .at-table {
     --ch: 4rem; --cw: min(3rem, calc((100vw - 13rem) / 13.4)); --fw: 3.1rem; --tw: 2.75rem; --th: 3.5rem;
     grid-template: "bar bar" auto "stage strip" auto "stage dock" 1fr "note dock" auto "say dock" auto "hand dock" auto / minmax(0, 1fr) 11rem;
@@ -723,6 +731,7 @@ td.marked { outline: 2px dashed var(--blue); outline-offset: -2px; }
 }
 /* Tablets and laptops. */
 @media (min-width: 40em) and (min-height: 30.01em) {
+  #stage .trick { --gap: .5rem; }
   #bar { min-height: 3.5rem; padding: .25rem 1rem; }
   #chip { width: 2.75rem; height: 2.75rem; }
   #status { font-size: 1.0625rem; }
@@ -738,6 +747,8 @@ td.marked { outline: 2px dashed var(--blue); outline-offset: -2px; }
   .dummy-right #stage { grid-template-columns: 8rem minmax(0, 1fr) 13.5rem; }
   :is(.dummy-left .at-left, .dummy-right .at-right) > .plate { display: flex; max-width: 13rem; }
   .at-table:has(#desk > .called) #status:not(.lost) { clip-path: inset(50%); }
+  .playing.at-table:has(#desk > .called) #status:not(.lost) { position: absolute; width: 1px; height: 1px; margin: 0; padding: 0; overflow: hidden; }
+  .playing #desk > .called { min-height: 3.75rem; font-size: 1rem; }
   #dock { gap: .4rem; padding: .5rem 1rem max(.5rem, env(safe-area-inset-bottom)); }
   #dock.play:not(:has([hidden])) { grid-template-columns: 9.5rem 7.5rem 1fr; }
   #dock.play button { min-height: 3.25rem; }
@@ -776,7 +787,6 @@ td.marked { outline: 2px dashed var(--blue); outline-offset: -2px; }
   .box-call, .box #confirm { min-height: 3.25rem; }
 }
 @media (min-width: 56em) and (orientation: landscape) and (min-height: 30.01em) {
-  #stage .trick { --gap: .5rem; }
   .at-table {
     --cw: 3.2rem; --fw: 4.375rem; --ch: 6.25rem; --tw: 4.5rem; --th: 6.25rem;
     grid-template: "bar bar" auto "stage side" 1fr "note side" auto "say side" auto "hand side" auto "dock side" auto / minmax(0, 1fr) 18rem;
@@ -971,6 +981,7 @@ td.marked { outline: 2px dashed var(--blue); outline-offset: -2px; }
   .over .panel { padding: .5rem; }
   .over .banner { margin-bottom: .5rem; }
   .suit-line { font-size: 1rem; line-height: 1.25; }
+  #opened .diagram :is(.of-left, .of-right) .who { flex-wrap: wrap; font-size: .8125rem; }
   .over .diagram .who span { display: -webkit-box; -webkit-box-orient: vertical; -webkit-line-clamp: 2; overflow: hidden; }
   .list .who + td { overflow-wrap: anywhere; }
   .diagram { gap: .1rem .4rem; }
@@ -985,6 +996,11 @@ td.marked { outline: 2px dashed var(--blue); outline-offset: -2px; }
   .numbers:has(> :nth-child(8)) { grid-template-columns: repeat(4, 1fr); }
   .numbers:has(> :nth-child(9)) { grid-template-columns: repeat(5, 1fr); }
   .numbers:has(> :nth-child(11)) { grid-template-columns: repeat(6, 1fr); }
+}
+@media (max-width: 24em) {
+  .director #choosing { gap: .5rem .4rem; padding-inline: .5rem; }
+  #choosing :is(select, #opened-close) { padding-inline: .4rem; }
+  .tile > span, .per button { font-size: .8125rem; }
 }
 /* The smallest screens. */
 @media (max-width: 21em) {
@@ -1046,7 +1062,8 @@ td.marked { outline: 2px dashed var(--blue); outline-offset: -2px; }
   #parts button, #dock.onward button { min-width: 0; max-width: 100%; overflow-wrap: anywhere; }
 }
 @media (orientation: landscape) and (max-height: 30em) {
-  #options { display: grid; grid-template-columns: repeat(3, 1fr); gap: 0 .75rem; align-items: start; }
+  #options { display: grid; grid-template-columns: 1.5fr 1fr 1fr; gap: 0 .75rem; align-items: start; }
+  #options label + label { margin-top: .3rem; }
   #options > h2 { grid-area: 1 / 1 / 2 / 3; align-self: center; margin: 0; }
   #options > button { grid-area: 1 / 3; }
   #options > fieldset { grid-row: 2; }
