@@ -1,0 +1,30 @@
+-- What a pair gains where the scores of several sections are compared with one another (Laws 12C2, 78).
+use Rattle.std.specs.Prelude.{ℕ, List, flat_map, sum_by, ℤ, pos, ◌-ℤ◌, neg_ℤ}
+use Rattle.bridge_cards.specs.declared.scoring.Scoring.{Scoring}
+use Rattle.bridge_cards.specs.declared.scoring.Scoring.TheVariants.{MatchPoints, Imps}
+use Rattle.bridge_score.specs.declared.ranking.Line.{Line}
+use Rattle.bridge_score.specs.Comparison.{int_sum_by}
+use Rattle.bridge_ranking.specs.declared.game.Game.{Game}
+use Rattle.bridge_ranking.specs.Ranking.{value_in, available_in}
+use Rattle.event_ranking.specs.declared.ranking.SectionLine.{SectionLine}
+
+-- the plays of all sections, in their order
+abbrev pub joint : List (List Game) → List Game
+joint sections = flat_map (λ games. games) sections
+
+-- a pair's line: the sums over its own section's plays, of what it gained there against the scores of all sections
+abbrev pub joint_line : Scoring → List Game → List Game → ℕ → Line
+joint_line scoring all own pair = record {
+  pair = pair;
+  value = int_sum_by (value_in scoring all pair) own;
+  available = sum_by (available_in all pair) own;
+}
+
+-- a line beside the number of its section
+abbrev pub of_section : ℕ → Line → SectionLine
+of_section section line = record { section = section; line = line }
+
+-- what the other side gains by a play: the rest of what is available, or what the one side loses
+abbrev pub other_gain : Scoring → ℤ → ℕ → ℤ
+other_gain MatchPoints gain available = pos available -ℤ gain
+other_gain Imps gain available = neg_ℤ gain
