@@ -1,4 +1,5 @@
 //! Worked results of three tables, three rounds and three boards, each worked out by hand from the Laws.
+mod event;
 mod games;
 mod html;
 mod makeable;
