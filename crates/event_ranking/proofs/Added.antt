@@ -1,5 +1,5 @@
 -- Sums of what a pair gains in a section's plays.
-use Rattle.std.proofs.Common.{◌+◌, ◌*◌, ◌<◌, ◌≤◌, ℕ, ℤ, ◌+ℤ◌, arith}
+use Rattle.std.proofs.Common.{◌≤◌, ℕ, ℤ, arith}
 use Rattle.std.proofs.lemmas.Int.{ints}
 use mir.Syntax.{w32}
 use mir.Val.{SFits}

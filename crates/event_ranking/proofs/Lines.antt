@@ -8,7 +8,6 @@ use Rattle.std.proofs.lemmas.List.{length-map, get_or-map, get_or_default, take_
 use Rattle.std.proofs.lemmas.List.Concat.{flat_map-append}
 use Rattle.std.proofs.lemmas.List.FromFn.{length-range_with_len, length-enumerate_from, get_or-enumerate_from}
 use Rattle.bridge_cards.specs.declared.scoring.Scoring.{Scoring}
-use Rattle.bridge_movement.specs.declared.shape.Shape.{Shape}
 use Rattle.bridge_ranking.specs.declared.field.Field.{Field}
 use Rattle.bridge_ranking.specs.declared.game.Game.{Game}
 use Rattle.bridge_ranking.specs.Ranking.{games_of, pairs_of_field}

@@ -1,8 +1,8 @@
 -- What holds of any two elements of a list.
-use Rattle.std.proofs.Common.{◌≡◌, ◌+◌, ◌<◌, ◌≤◌, ℕ, List, length, take, get_or, inl, inr, sym, ap, ◌∙◌, subst, arith}
+use Rattle.std.proofs.Common.{◌≡◌, ◌+◌, ◌<◌, ◌≤◌, ℕ, List, length, take, get_or, inl, inr, sym, subst, arith}
 use Rattle.std.specs.Prelude.{AllPairs}
 use Rattle.std.proofs.lemmas.Bool.{cases_lt}
-use Rattle.std.proofs.lemmas.List.{get_or-take, length-take-le, get_or_default, take_all}
+use Rattle.std.proofs.lemmas.List.{get_or-take, length-take-le, take_all}
 
 -- of one element more
 pub AllPairs-more : {X : Type 0} (R : X → X → Type 0) (xs : List X) (n : ℕ) → n < length xs → AllPairs R (take n xs) → ((i : ℕ) (d : X) → i < n → R (get_or xs i d) (get_or xs n d)) → AllPairs R (take (n + 1) xs)

@@ -19,7 +19,7 @@ use Rattle.event_ranking.specs.declared.columns.TheConstants.{SHARE_COLUMNS, SUM
 use Rattle.event_ranking.specs.declared.ranking.SectionRanked.{SectionRanked}
 use Rattle.event_ranking.specs.declared.sheet.Among.{Among}
 use Rattle.event_ranking.specs.declared.sheet.Among.TheVariants.{Event, Section}
-use Rattle.event_ranking.specs.EventRanking.{scoring_of, without_section}
+use Rattle.event_ranking.specs.EventRanking.{scoring_of}
 
 -- the last letter of a section: A to Z in turn
 abbrev pub last_letter : ℕ → ℕ

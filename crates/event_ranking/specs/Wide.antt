@@ -1,5 +1,5 @@
 -- The plays of several sections with their scores, as the code keeps them.
-use Rattle.std.specs.Prelude.{◌≡◌, ◌≤◌, ℕ, ℤ, List, length, map, All}
+use Rattle.std.specs.Prelude.{◌≡◌, ◌≤◌, ℤ, List, length, map, All}
 use Rattle.std.specs.List.{range_with_len}
 use Rattle.bridge_cards.specs.Board.{IsBoard}
 use Rattle.bridge_cards.specs.declared.seat.Side.TheVariants.{NorthSouth}

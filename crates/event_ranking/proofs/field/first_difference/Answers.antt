@@ -1,7 +1,7 @@
-use Rattle.std.proofs.Common.{◌≡◌, sym, ap, ◌∙◌, rules}
+use Rattle.std.proofs.Common.{sym, ap, ◌∙◌, rules}
 use Rattle.bridge_config.specs.ConfigValue.{ConfigValue}
 use Rattle.bridge_movement.specs.declared.shape.Shape.{Shape}
-use Rattle.event_ranking.specs.OneField.{HaveOneScoring, HaveOneSize, HaveOneCount}
+use Rattle.event_ranking.specs.OneField.{HaveOneScoring, HaveOneSize}
 use Rattle.event_ranking.proofs.field.first_difference.Goals as goal
 
 pub returns-then-shape : goal.returns-then-shape

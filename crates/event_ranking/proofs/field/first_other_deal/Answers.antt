@@ -1,4 +1,4 @@
-use Rattle.std.proofs.Common.{◌≡◌, arith, rules}
+use Rattle.std.proofs.Common.{arith, rules}
 use Rattle.event_ranking.proofs.Alike.{boards_more}
 use Rattle.event_ranking.proofs.field.first_other_deal.Goals as goal
 

@@ -1,9 +1,8 @@
-use Rattle.std.proofs.Common.{◌≡◌, sym, ap, ◌∙◌}
-use Rattle.std.specs.Bool.{Decides}
+use Rattle.std.proofs.Common.{sym, ap, ◌∙◌}
 use Rattle.std.specs.Option.{option_copied}
 use Rattle.std.proofs.lemmas.Bool.Decides.{Decides-at}
 use Rattle.bridge_session.proofs.SameCalls.{deals_decided}
-use Rattle.event_ranking.proofs.Alike.{both_there, ours_alone, ours_missing}
+use Rattle.event_ranking.proofs.Alike.{both_there}
 use Rattle.event_ranking.proofs.field.have_one_deal.Goals as goal
 
 pub returns-in-Some-Some : goal.returns-in-Some-Some

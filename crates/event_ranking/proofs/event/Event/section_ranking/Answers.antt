@@ -1,4 +1,4 @@
-use Rattle.std.proofs.Common.{◌≤◌, ◌++◌, List, length, ap, ◌∙◌, arith}
+use Rattle.std.proofs.Common.{◌++◌, List, length, ap, ◌∙◌, arith}
 use Rattle.std.proofs.lemmas.Result.{IfOk-weaker}
 use Rattle.event_ranking.specs.declared.ranking.SectionLine.{SectionLine}
 use Rattle.event_ranking.specs.EventRanking.{scoring_of, lines_at, IsWideRanking, IsSectionRanking}

@@ -1,6 +1,5 @@
-use Rattle.std.proofs.Common.{◌≡◌, ◌<◌, List, map, length, get_or, sym, ap, ◌∙◌, subst, arith}
+use Rattle.std.proofs.Common.{◌<◌, length, sym, ap, ◌∙◌, subst, arith}
 use Rattle.std.proofs.lemmas.List.{length-map, get_or-map}
-use Rattle.bridge_ranking.specs.declared.game.Game.{Game}
 use Rattle.event_ranking.specs.Wide.{AreOfSection}
 use Rattle.event_ranking.proofs.wide.WideScores.games.Goals as goal
 
