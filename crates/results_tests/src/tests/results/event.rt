@@ -51,11 +51,7 @@ static FIRST: [Row; 6] = [
 /// That of the second field in the first section.
 static OF_SECTION: [Row; 3] = [(1, 1, 6, 220, 240), (2, 1, 4, 100, 240), (3, 1, 5, 60, 240)];
 
-fn expect_rankings(
-    rt: &impl Abort,
-    alloc: Global,
-    sections: &[Session],
-) -> Result<(), AllocError>
+fn expect_rankings(rt: &impl Abort, alloc: Global, sections: &[Session]) -> Result<(), AllocError>
     requires few { length sections.now ≤ 40 }
     requires field { IsField sections.now }
 {
