@@ -2,17 +2,19 @@
 ghost use Rattle.std.specs.Prelude.{◌≡◌, ◌≤◌, ◌<◌, ◌+◌, ◌++◌, [], length, map, slice_index_or, All, OnOk, IfOk};
 ghost use Rattle.std.specs.List.{range_with_len};
 ghost use Rattle.bridge_movement.specs.Shape.{IsShape};
-ghost use Rattle.bridge_ranking.specs.Ranking.{games_of, pairs_of_field};
+ghost use Rattle.bridge_cards.specs.declared.seat.Side.TheVariants.{NorthSouth};
+ghost use Rattle.bridge_ranking.specs.Ranking.{games_of, pairs_of_field, scores_on};
 ghost use Rattle.session_rules.specs.State.{SessionValue};
 ghost use Rattle.event_ranking.specs.OneField.{IsField};
 ghost use Rattle.event_ranking.specs.Joint.{joint, joint_line, of_section};
 ghost use Rattle.event_ranking.specs.Wide.{AreOfSection, AreOfSections};
 ghost use Rattle.event_ranking.specs.EventRanking.{scoring_of, lines_at, field_lines, IsFieldRanking, IsSectionRanking};
 
+use crate::gain::MOST_SCORES;
 use crate::line::joint_line;
 use crate::ranking::{SectionLine, SectionRanked, rank};
 use crate::wide::WideScores;
-use bridge_cards::Scoring;
+use bridge_cards::{BoardNumber, Scoring};
 use bridge_movement::Shape;
 use bridge_ranking::{Field, Game};
 use bridge_results::Results;
@@ -68,7 +70,7 @@ fn games_by_section(alloc: Global, sections: &[Session]) -> Result<Vec<Vec<Game>
 }
 
 /// How the scores of sections are compared: as the first says.
-pub(crate) fn scoring_of(sections: &[Session]) -> Scoring
+pub fn scoring_of(sections: &[Session]) -> Scoring
     ensures { result ≡ scoring_of sections.now }
 {
     match sections.first() {
@@ -150,6 +152,14 @@ impl<'a> Event<'a> {
         let games = games_by_section(alloc, sections)?;
         let wide = WideScores::new(alloc, games)?;
         Ok(Event { sections, wide })
+    }
+
+    /// The scores of North and South on a board in all sections.
+    pub fn scores(&self, board: BoardNumber) -> &[i32]
+        ensures scores { result.now ≡ scores_on (joint (map games_of self.now)) NorthSouth board }
+        ensures most { length result.now ≤ MOST_SCORES }
+    {
+        self.wide.scores(board.number())
     }
 
     /// Adds the lines of the pairs of a field in the section at an index.

@@ -11,17 +11,18 @@
 pub mod columns;
 pub mod event;
 pub mod field;
-mod gain;
+pub mod gain;
 pub mod laws;
-mod letters;
+pub mod letters;
 mod line;
 pub mod ranking;
 mod rows;
 pub mod sheet;
 pub mod wide;
 
-pub use event::Event;
+pub use event::{Event, scoring_of};
 pub use field::{Difference, SectionsRefused, field_of};
 pub use laws::one_section_is_ranked_as_ever;
+pub use letters::section_letters;
 pub use ranking::{SectionLine, SectionRanked};
 pub use sheet::{Among, write_ranking};
