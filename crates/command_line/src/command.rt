@@ -1,5 +1,12 @@
 //! What the words after the program's name ask for.
+use arrayvec::ArrayVec;
 use bridge_cards::BoardNumber;
+
+/// The most disks that a command reads as sections of one event.
+pub const MOST_DISKS: usize = 40;
+
+/// The names of the files of several disks, in the order in which they are given.
+pub type DiskNames<'a> = ArrayVec<&'a str, MOST_DISKS>;
 
 /// What page of results is asked for.
 #[derive(Clone, Copy)]
@@ -11,7 +18,7 @@ pub struct PageAsked {
 }
 
 /// A command with its words.
-#[derive(Clone, Copy)]
+#[derive(Drop)]
 pub enum Command<'a> {
     /// `auction BOARD`: one board's auction, from standard input.
     Auction(BoardNumber),
@@ -70,6 +77,13 @@ pub enum Command<'a> {
         /// The file with the names as people write them, in place of the configuration's names.
         names: Option<&'a str>,
     },
+    /// `results DISK DISK .. [--html] [--no-analysis]`: the same of the sessions that two to 40 disks hold, as sections of one event.
+    EventResults {
+        /// The names of the disks' files, in the order of the sections.
+        disks: DiskNames<'a>,
+        /// What page.
+        page: PageAsked,
+    },
     /// `check DISK`: what a disk holds, in words, or where it is damaged and what its older snapshot holds; or
     /// `check DISK DISK2`: what each of two disks holds, and how they stand to each other.
     Check {
@@ -116,6 +130,13 @@ pub enum Command<'a> {
     Export {
         /// DISK, the name of the disk's file.
         disk: &'a str,
+        /// What is printed.
+        asked: ExportAsked,
+    },
+    /// `export DISK DISK ..` with the same flags: the same of the sessions that two to 40 disks hold, as sections of one event.
+    EventExport {
+        /// The names of the disks' files, in the order of the sections.
+        disks: DiskNames<'a>,
         /// What is printed.
         asked: ExportAsked,
     },
