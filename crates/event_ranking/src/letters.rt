@@ -2,21 +2,21 @@
 ghost use Rattle.std.specs.Prelude.{◌≡◌, ◌≤◌, length};
 ghost use Rattle.event_ranking.specs.EventText.{section_text};
 
-use arrayvec::ArrayVec;
+use arrayvec::ArrayString;
 
 /// The letters of a section.
-pub type SectionLetters = ArrayVec<u8, 2>;
+pub type SectionLetters = ArrayString<2>;
 
 /// The letters of the section of that number, from 1: A to Z, then AA, AB and so on.
 pub fn section_letters(section: u8) -> SectionLetters
-    ensures text { result.items ≡ section_text section }
-    ensures short { length result.items ≤ 2 }
+    ensures text { result.bytes ≡ section_text section }
+    ensures short { length result.bytes ≤ 2 }
 {
     let index = section.saturating_sub(1);
-    let mut letters = ArrayVec::new();
+    let mut letters = ArrayString::new();
     if 26 < section {
-        letters.push(b'@' + index / 26);
+        letters.push(char::from(b'@' + index / 26));
     }
-    letters.push(b'A' + index % 26);
+    letters.push(char::from(b'A' + index % 26));
     letters
 }

@@ -55,7 +55,7 @@ fn share_row(format: Format, names: &str, ranked: &SectionRanked) -> PageText
     let percent = percent_text(share_of(ranked));
     let cells = [
         place.as_str().as_bytes(),
-        section.as_slice(),
+        section.as_str().as_bytes(),
         pair.as_str().as_bytes(),
         names.as_bytes(),
         value.as_str().as_bytes(),
@@ -78,7 +78,7 @@ fn sum_row(format: Format, names: &str, ranked: &SectionRanked) -> PageText
     let value = imps_cell(ranked);
     let cells = [
         place.as_str().as_bytes(),
-        section.as_slice(),
+        section.as_str().as_bytes(),
         pair.as_str().as_bytes(),
         names.as_bytes(),
         value.as_str().as_bytes(),

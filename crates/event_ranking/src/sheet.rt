@@ -72,7 +72,7 @@ fn section_words(section: u8) -> Words
 {
     let mut words = Words::new();
     push_words(&mut words, b"Ranking of section ");
-    push_words(&mut words, section_letters(section).as_slice());
+    push_words(&mut words, section_letters(section).as_str().as_bytes());
     words
 }
 
