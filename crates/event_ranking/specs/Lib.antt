@@ -4,3 +4,4 @@ pub mod Joint
 pub mod Wide
 pub mod EventRanking
 pub mod EventText
+pub mod Dealt

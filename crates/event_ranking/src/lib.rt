@@ -9,6 +9,7 @@
 #![tactic(auto)]
 
 pub mod columns;
+pub mod dealt;
 pub mod event;
 pub mod field;
 pub mod gain;
@@ -20,6 +21,7 @@ mod rows;
 pub mod sheet;
 pub mod wide;
 
+pub use dealt::first_deal;
 pub use event::{Event, scoring_of};
 pub use field::{Difference, SectionsRefused, field_of};
 pub use laws::one_section_is_ranked_as_ever;
