@@ -12,7 +12,9 @@ use Rattle.clap.specs.declared.builder.action.ArgAction.TheVariants.{SetTrue}
 use Rattle.clap.specs.declared.builder.value_parser.ValueParser.TheVariants as parser
 use Rattle.command_line.specs.declared.declared.Declared.{Declared}
 use Rattle.command_line.specs.declared.command.Command.{Command}
-use Rattle.command_line.specs.declared.command.Command.TheVariants.{Auction, Format, Script, Correct, Serve, Web, Rank, Pbn, Results, EventResults, Check, Plan, Draft, Slips, Evening, Makeable, Export, EventExport, Copy, Version}
+use Rattle.command_line.specs.declared.command.Command.TheVariants.{Auction, Format, Script, Correct, Serve, Web, Rank, Pbn, Results, Check, Plan, Draft, Slips, Evening, Makeable, Export, Event, Copy, Version}
+use Rattle.command_line.specs.declared.command.EventAsked.{EventAsked}
+use Rattle.command_line.specs.declared.command.EventAsked.TheVariants.{Page, Export as ForPrograms}
 use Rattle.command_line.specs.declared.command.PageAsked.{PageAsked}
 use Rattle.command_line.specs.declared.command.WebHost.{WebHost}
 use Rattle.command_line.specs.declared.command.WebWords.{WebWords}
@@ -391,6 +393,11 @@ HasPage rows page = HasFlag rows (codes "html") page.html × HasFlag rows (codes
 abbrev pub IsListOfSeveral : List Row → Type 0
 IsListOfSeveral rows = (disks : DiskNames) × (names : Bor Text) × HasSeveral rows disks × HasOption rows (codes "names") (Some names)
 
+-- what is asked for of several disks: a page, without a list of names; or what the flags of `export` ask for
+abbrev pub HasEvent : List Row → EventAsked → Type 0
+HasEvent rows (Page page) = HasPage rows page × HasOption rows (codes "names") None
+HasEvent rows (ForPrograms asked) = HasExport rows asked
+
 -- the arguments are those of a command
 abbrev pub HasWords : List Row → Command → Type 0
 HasWords rows (Auction board) = HasNumber 8 rows (codes "BOARD") board
@@ -403,7 +410,6 @@ HasWords rows (Web disk pages) = HasText rows (codes "DISK") disk.now × HasPage
 HasWords rows (Rank disk) = HasText rows (codes "DISK") disk.now
 HasWords rows (Pbn disk) = HasText rows (codes "DISK") disk.now
 HasWords rows (Results disk page names) = HasDisks rows (disk.now ∷ []) × HasPage rows page × HasOption rows (codes "names") names
-HasWords rows (EventResults disks page) = HasSeveral rows disks × HasPage rows page × HasOption rows (codes "names") None
 HasWords rows (Check disk copy) = HasText rows (codes "DISK") disk.now × HasOption rows (codes "DISK2") copy
 HasWords rows (Plan config names) = HasText rows (codes "CONFIG") config.now × HasOption rows (codes "names") names
 HasWords rows (Draft names wishes) = HasText rows (codes "NAMES") names.now × HasWishes rows wishes
@@ -411,9 +417,14 @@ HasWords rows (Slips config slips) = HasText rows (codes "CONFIG") config.now ×
 HasWords rows (Evening words) = HasEvening rows words
 HasWords rows (Makeable file pbn) = HasText rows (codes "FILE") file.now × HasFlag rows (codes "pbn") pbn
 HasWords rows (Export disk asked) = HasDisks rows (disk.now ∷ []) × HasExport rows asked
-HasWords rows (EventExport disks asked) = HasSeveral rows disks × HasExport rows asked
+HasWords rows (Event disks asked) = HasSeveral rows disks × HasEvent rows asked
 HasWords rows (Copy disk copy) = HasText rows (codes "DISK") disk.now × HasText rows (codes "DISK2") copy.now
 HasWords rows Version = Unit {0}
+
+-- the command by whose name it is asked for
+abbrev pub event_name : EventAsked → Text
+event_name (Page page) = codes "results"
+event_name (ForPrograms asked) = codes "export"
 
 -- the name of a command
 abbrev pub name_of : Command → Text
@@ -426,7 +437,6 @@ name_of (Web disk pages) = codes "web"
 name_of (Rank disk) = codes "rank"
 name_of (Pbn disk) = codes "pbn"
 name_of (Results disk page names) = codes "results"
-name_of (EventResults disks page) = codes "results"
 name_of (Check disk copy) = codes "check"
 name_of (Plan config names) = codes "plan"
 name_of (Draft names wishes) = codes "draft"
@@ -434,7 +444,7 @@ name_of (Slips config slips) = codes "slips"
 name_of (Evening words) = codes "evening"
 name_of (Makeable file pbn) = codes "makeable"
 name_of (Export disk asked) = codes "export"
-name_of (EventExport disks asked) = codes "export"
+name_of (Event disks asked) = event_name asked
 name_of (Copy disk copy) = codes "copy"
 name_of Version = codes "version"
 

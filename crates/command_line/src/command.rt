@@ -77,13 +77,6 @@ pub enum Command<'a> {
         /// The file with the names as people write them, in place of the configuration's names.
         names: Option<&'a str>,
     },
-    /// `results DISK DISK .. [--html] [--no-analysis]`: the same of the sessions that two to 40 disks hold, as sections of one event.
-    EventResults {
-        /// The names of the disks' files, in the order of the sections.
-        disks: DiskNames<'a>,
-        /// What page.
-        page: PageAsked,
-    },
     /// `check DISK`: what a disk holds, in words, or where it is damaged and what its older snapshot holds; or
     /// `check DISK DISK2`: what each of two disks holds, and how they stand to each other.
     Check {
@@ -133,12 +126,13 @@ pub enum Command<'a> {
         /// What is printed.
         asked: ExportAsked,
     },
-    /// `export DISK DISK ..` with the same flags: the same of the sessions that two to 40 disks hold, as sections of one event.
-    EventExport {
+    /// `results DISK DISK ..` without a list of names, or `export DISK DISK ..`: the same of the sessions that two to 40 disks hold, as the
+    /// sections of one event.
+    Event {
         /// The names of the disks' files, in the order of the sections.
         disks: DiskNames<'a>,
         /// What is printed.
-        asked: ExportAsked,
+        asked: EventAsked,
     },
     /// `copy DISK DISK2`: a new disk for the session that a disk holds.
     Copy {
@@ -165,6 +159,15 @@ pub enum ExportAsked {
         /// Whether `--no-analysis` is among the words: they have no word of what could be made on a board.
         no_analysis: bool,
     },
+}
+
+/// What is printed of several sections.
+#[derive(Clone, Copy)]
+pub enum EventAsked {
+    /// Their results as a page.
+    Page(PageAsked),
+    /// Their results for other programs.
+    Export(ExportAsked),
 }
 
 /// Where the pages of `web` are shown, by which name, and how they begin.

@@ -3,7 +3,7 @@ ghost use Rattle.std.specs.Prelude.{◌≡◌, true, codes, IfSome};
 ghost use Rattle.clap.specs.Words.{rows_of, found_of};
 ghost use Rattle.command_line.specs.Words.{export_asked, HasFlags, IsNamed, IsExcluded};
 
-use crate::command::{Command, ExportAsked};
+use crate::command::{Command, EventAsked, ExportAsked};
 use crate::disks::{are_several, disks_of, only};
 use crate::read::has_flag;
 use clap::ArgMatches;
@@ -59,7 +59,10 @@ pub fn export_of<'a>(found: &ArgMatches<'a>) -> Option<Command<'a>>
     let asked = export_asked(flags_of(found))?;
     match only(&disks) {
         Some(disk) => Some(Command::Export { disk, asked }),
-        None if are_several(&disks) => Some(Command::EventExport { disks, asked }),
+        None if are_several(&disks) => Some(Command::Event {
+            disks,
+            asked: EventAsked::Export(asked),
+        }),
         None => None,
     }
 }

@@ -20,7 +20,7 @@ mod results_read;
 mod unasked;
 
 pub use command::{
-    Command, DiskNames, DraftWords, EveningWords, ExportAsked, MOST_DISKS, PageAsked, SlipWords,
-    WebHost, WebWords, WordsFault,
+    Command, DiskNames, DraftWords, EveningWords, EventAsked, ExportAsked, MOST_DISKS, PageAsked,
+    SlipWords, WebHost, WebWords, WordsFault,
 };
 pub use read::read_words;

@@ -3,7 +3,7 @@ ghost use Rattle.std.specs.Prelude.{◌≡◌, true, codes, IfSome};
 ghost use Rattle.clap.specs.Words.{rows_of, found_of};
 ghost use Rattle.command_line.specs.Words.{IsNamed, HasPage, IsListOfSeveral};
 
-use crate::command::{Command, PageAsked};
+use crate::command::{Command, EventAsked, PageAsked};
 use crate::disks::{are_several, disks_of, only};
 use crate::read::{has_flag, option_of};
 use clap::ArgMatches;
@@ -27,7 +27,10 @@ pub fn results_of<'a>(found: &ArgMatches<'a>) -> Option<Command<'a>>
     let page = page_of(found);
     match (only(&disks), option_of(found, "names")) {
         (Some(disk), names) => Some(Command::Results { disk, page, names }),
-        (None, None) if are_several(&disks) => Some(Command::EventResults { disks, page }),
+        (None, None) if are_several(&disks) => Some(Command::Event {
+            disks,
+            asked: EventAsked::Page(page),
+        }),
         _ => None,
     }
 }
