@@ -10,7 +10,7 @@ pub mod page;
 pub(crate) mod pair_card;
 pub(crate) mod par;
 pub(crate) mod ranking;
-mod sheets;
+pub mod sheets;
 pub(crate) mod shown;
 
 pub use page::{write_results, write_results_with};
