@@ -13,15 +13,11 @@ use Rattle.bridge_ranking.specs.declared.game.Game.{Game}
 use Rattle.bridge_ranking.specs.Ranking.{games_of, pairs_of_field}
 use Rattle.session_rules.specs.State.{SessionValue}
 use Rattle.event_ranking.specs.declared.ranking.SectionLine.{SectionLine}
-use Rattle.event_ranking.specs.Joint.{joint, joint_line, of_section}
+use Rattle.event_ranking.specs.Joint.{joint, joint_line, made_lines, of_section}
 use Rattle.event_ranking.specs.declared.ranking.SectionRanked.{SectionRanked}
 use Rattle.event_ranking.specs.EventRanking.{scoring_of, section_lines, lines_at, IsWideRanking}
 
--- the lines of pairs of a section, as they are made
-abbrev pub made_lines : Scoring → List (List Game) → ℕ → List ℕ → List SectionLine
-made_lines scoring wide index pairs = map (λ pair. of_section (index + 1) (joint_line scoring (joint wide) (get_or wide index []) pair)) pairs
-
--- are those of the section at the index
+-- the lines that are made of pairs of a section are those of the section at the index
 lines_made : (sections : List SessionValue) (wide : List (List Game)) (index : ℕ) (session : SessionValue) (field : Field) (scoring : Scoring) (pairs : List ℕ) → wide ≡ map games_of sections → index < length sections →
     session ≡ get_or sections index session → scoring ≡ scoring_of sections → pairs ≡ pairs_of_field session.configuration.movement.shape field → made_lines scoring wide index pairs ≡ lines_at sections index field
 lines_made sections wide index session field scoring pairs are within at by of =

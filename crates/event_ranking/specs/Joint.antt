@@ -1,5 +1,5 @@
 -- What a pair gains where the scores of several sections are compared with one another (Laws 12C2, 78).
-use Rattle.std.specs.Prelude.{ℕ, List, flat_map, sum_by, ℤ, pos, ◌-ℤ◌, neg_ℤ}
+use Rattle.std.specs.Prelude.{ℕ, ◌+◌, List, [], map, flat_map, slice_index_or, sum_by, ℤ, pos, ◌-ℤ◌, neg_ℤ}
 use Rattle.bridge_cards.specs.declared.scoring.Scoring.{Scoring}
 use Rattle.bridge_cards.specs.declared.scoring.Scoring.TheVariants.{MatchPoints, Imps}
 use Rattle.bridge_score.specs.declared.ranking.Line.{Line}
@@ -23,6 +23,11 @@ joint_line scoring all own pair = record {
 -- a line beside the number of its section
 abbrev pub of_section : ℕ → Line → SectionLine
 of_section section line = record { section = section; line = line }
+
+-- the lines of these pairs of the section at an index, against the scores of all
+abbrev pub made_lines : Scoring → List (List Game) → ℕ → List ℕ → List SectionLine
+made_lines scoring wide index pairs =
+    map (λ pair. of_section (index + 1) (joint_line scoring (joint wide) (slice_index_or wide index []) pair)) pairs
 
 -- what the other side gains by a play: the rest of what is available, or what the one side loses
 abbrev pub other_gain : Scoring → ℤ → ℕ → ℤ

@@ -6,7 +6,7 @@ ghost use Rattle.bridge_cards.specs.declared.seat.Side.TheVariants.{NorthSouth};
 ghost use Rattle.bridge_ranking.specs.Ranking.{games_of, pairs_of_field, scores_on};
 ghost use Rattle.session_rules.specs.State.{SessionValue};
 ghost use Rattle.event_ranking.specs.OneField.{IsField};
-ghost use Rattle.event_ranking.specs.Joint.{joint, joint_line, of_section};
+ghost use Rattle.event_ranking.specs.Joint.{joint, made_lines};
 ghost use Rattle.event_ranking.specs.Wide.{AreOfSection, AreOfSections};
 ghost use Rattle.event_ranking.specs.EventRanking.{scoring_of, lines_at, field_lines, IsFieldRanking, IsSectionRanking};
 
@@ -129,8 +129,7 @@ fn push_lines(
     requires section { index < length wide.now }
     requires few { index < 40 }
     requires pairs { pairs.first + pairs.count ≤ 25 }
-    ensures { OnOk result (lines.new.items ≡ lines.old.items
-        ++ map (λ pair. of_section (index + 1) (joint_line scoring (joint wide.now) (slice_index_or wide.now index []) pair)) (range_with_len pairs.first pairs.count)) }
+    ensures { OnOk result (lines.new.items ≡ lines.old.items ++ made_lines scoring wide.now index (range_with_len pairs.first pairs.count)) }
 {
     let own = wide.games(index);
     for offset in 0..pairs.count {

@@ -6,7 +6,8 @@ use Rattle.bridge_ranking.specs.Ranking.{games_of}
 use Rattle.session_rules.specs.State.{SessionValue}
 use Rattle.event_ranking.specs.declared.ranking.SectionLine.{SectionLine}
 use Rattle.event_ranking.specs.EventRanking.{lines_at}
-use Rattle.event_ranking.proofs.Lines.{made_lines, lines_at_made, few_made}
+use Rattle.event_ranking.specs.Joint.{made_lines}
+use Rattle.event_ranking.proofs.Lines.{lines_at_made, few_made}
 use Rattle.event_ranking.proofs.event.Event.push_section_lines.Goals as goal
 
 pub push_lines-requires-clause-section : goal.push_lines-requires-clause-section
