@@ -7,3 +7,4 @@ pub mod Games
 pub mod OneSection
 pub mod Alike
 pub mod Lines
+pub mod Deals
