@@ -31,7 +31,7 @@ fn expect_rows(rt: &impl Abort, ranking: &[SectionRanked], rows: &[Row]) {
 }
 
 /// The worked session, and one in which the third round is not played.
-fn two_sections(rt: &impl Abort, alloc: Global, config: &str) -> [Session; 2] {
+pub fn two_sections(rt: &impl Abort, alloc: Global, config: &str) -> [Session; 2] {
     let mut second = dealt(rt, alloc, config);
     round_1(rt, &mut second);
     round_2(rt, &mut second);
