@@ -9,6 +9,7 @@ use crate::check_two::run_check;
 use crate::copying::run_copy;
 use crate::evening::run_evening;
 use crate::evenings::{make_draft, make_plan, make_slips};
+use crate::events::run_event;
 use crate::fault::RunFault;
 use crate::fault_line::{fault_line, fault_status};
 use crate::formatting::run_format;
@@ -128,6 +129,7 @@ fn do_command<S: Machine, R: Read, W: Write>(
             rt, alloc, disk, page, names, input, output,
         ),
         Command::Export { disk, asked } => export(rt, alloc, disk, asked, input, output),
+        Command::Event { ref disks, asked } => run_event(rt, alloc, disks, asked, output),
         Command::Check { disk, copy } => run_check(rt, alloc, disk, copy, input, output),
         Command::Plan { config, names } => make_plan(rt, config, names, output),
         Command::Draft { names, wishes } => make_draft(rt, names, &wishes, output),
