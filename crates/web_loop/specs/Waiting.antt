@@ -1,5 +1,5 @@
 -- Answers that are put off.
-use Rattle.std.specs.Prelude.{◌≡◌, ◌⊎◌, ℕ, nat_le, Bool, false, List, Option, None, Some}
+use Rattle.std.specs.Prelude.{◌≡◌, ◌⊎◌, ◌-◌, ℕ, zero, suc, nat_le, Bool, true, false, List, Option, None, Some}
 use Rattle.std.specs.declared.time.Instant.{Instant}
 use Rattle.web_loop.specs.declared.client.Client.{Client}
 use Rattle.web_loop.specs.declared.client.Held.{Held}
@@ -8,7 +8,7 @@ use Rattle.web_loop.specs.declared.turn.Step.{Step}
 use Rattle.web_loop.specs.declared.turn.Step.TheVariants.{Moved, Blocked, Held as HeldStep, Closed}
 use Rattle.web_loop.specs.declared.turn.Turn.{Turn}
 use Rattle.web_loop.specs.declared.turn.Turn.TheVariants.{Waits, GoesOn, Holds, Closes}
-use Rattle.web_loop.specs.Offenders.{address_number, millis, waits}
+use Rattle.web_loop.specs.Offenders.{address_number, millis, waits, AreNoted}
 
 -- 15 seconds have passed
 abbrev pub is_late : Instant → Instant → Bool
@@ -40,6 +40,28 @@ HoldsAnew wish now (Some held) = (wish ≡ Some held.wish) × (held.since ≡ no
 pub record IsFree {S T : Type 0} (stays : S → List ℕ → Type 0) (looks : Bool) (now : Instant) (client : Client T) (offenders : Offenders) (service : S) : Type 0 where
   pub asks : waits (address_number client.address) (millis offenders.begun now) offenders.known.items ≡ false
   pub free : ¬ (IsOnHold stays looks now service client.held)
+
+-- what an address asks waits now
+abbrev pub IsSlowed : {T : Type 0} → Client T → Instant → Offenders → Type 0
+IsSlowed client now offenders = waits (address_number client.address) (millis offenders.begun now) offenders.known.items ≡ true
+
+module _ {S T : Type 0} (offences : S → ℕ) (now : Instant) where
+  -- A client took a turn: where its address waits it is asked nothing, and the offences that it was answered with are noted.
+  pub record NotesTurn (client : Client T) (old new : S) (before after : Offenders) : Type 0 where
+    pub begun : after.begun ≡ before.begun
+    pub slowed : IsSlowed client now before → (new ≡ old) × (after ≡ before)
+    pub noted : AreNoted (address_number client.address) (offences new - offences old) (millis before.begun now) before.known.items after.known.items
+
+  -- the turn of a client, if there is one
+  abbrev pub NotesIf : Option (Client T) → S → S → Offenders → Offenders → Type 0
+  NotesIf None old new before after = (new ≡ old) × (after ≡ before)
+  NotesIf (Some client) old new before after = NotesTurn client old new before after
+
+  -- the turns of the clients under the first so many keys, one after another
+  abbrev pub NotesOf : (ℕ → Option (Client T)) → ℕ → S → S → Offenders → Offenders → Type 0
+  NotesOf clients zero old new before after = (new ≡ old) × (after ≡ before)
+  NotesOf clients (suc count) old new before after =
+      (mid : S) × (known : Offenders) × NotesOf clients count old mid before known × NotesIf (clients count) mid new known after
 
 -- A step behind a request that waits is held or closes: at any other, as many such requests were answered as before.
 abbrev pub StepHolds : Step → ℕ → ℕ → Type 0

@@ -1,7 +1,9 @@
 //! One client of the server.
-ghost use Rattle.std.specs.Prelude.{◌≡◌, true, false};
+ghost use Rattle.std.specs.Prelude.{◌≡◌, ◌<◌, true, false, None, IsNone, length};
+ghost use Rattle.std.specs.Bool.{Decides};
+ghost use Rattle.http_server.specs.Connection.{history};
 ghost use Rattle.web_loop.specs.Turns.{LeadsTo, TakesTurn};
-ghost use Rattle.web_loop.specs.Waiting.{is_late, HoldsAnew, IsFree, IsOnHold, IsPutOff, StaysPutOff};
+ghost use Rattle.web_loop.specs.Waiting.{is_late, HoldsAnew, IsFree, IsOnHold, IsPutOff, StaysPutOff, NotesTurn};
 
 use crate::offenders::{Offenders, millis};
 use crate::service::LastingService;
@@ -69,7 +71,13 @@ impl<T: Read + Write + Drop> Client<T> {
         writer: T,
         address: IpAddr,
         now: Instant,
-    ) -> Client<T> {
+    ) -> Client<T>
+        ensures connection { result.connection ≡ connection }
+        ensures handles { (result.reader ≡ reader) × (result.writer ≡ writer) }
+        ensures address { result.address ≡ address }
+        ensures heard { result.heard ≡ now }
+        ensures held { result.held ≡ None }
+    {
         Client {
             connection,
             reader,
@@ -81,22 +89,30 @@ impl<T: Read + Write + Drop> Client<T> {
     }
 
     /// Whether an answer to it is to be sent and not sent yet. One that is put off is not to be sent.
-    pub fn is_pending(&self) -> bool {
+    pub fn is_pending(&self) -> bool
+        ensures { Decides result (IsNone self.now.held × (0 < length (history self.now.connection).pending)) }
+    {
         self.held.is_none() && self.connection.wants_write()
     }
 
     /// Where it came from.
-    pub fn address(&self) -> IpAddr {
+    pub fn address(&self) -> IpAddr
+        ensures { result ≡ self.now.address }
+    {
         self.address
     }
 
     /// When it last read or wrote, or waited for what it wished.
-    pub fn heard(&self) -> Instant {
+    pub fn heard(&self) -> Instant
+        ensures { result ≡ self.now.heard }
+    {
         self.heard
     }
 
     /// Has the answer sent that is put off, if one is.
-    pub fn release(&mut self) {
+    pub fn release(&mut self)
+        ensures { self.new ≡ record self.old { held = None } }
+    {
         self.held = None;
     }
 
@@ -116,6 +132,7 @@ impl<T: Read + Write + Drop> Client<T> {
         ensures held { HoldsAnew (S.wish service.now) now self.new.held }
         ensures connection { self.new.connection ≡ self.old.connection }
         ensures reader { self.new.reader ≡ self.old.reader }
+        ensures address { self.new.address ≡ self.old.address }
     {
         self.held = match service.wish() {
             Some(wish) => match wish.clone() {
@@ -142,6 +159,8 @@ impl<T: Read + Write + Drop> Client<T> {
         ensures turn { TakesTurn S.answers T.remaining self.old self.new service.old service.new }
         ensures held { IsOnHold S.stays looks now service.old self.old.held → IsPutOff self.old self.new service.old service.new }
         ensures free { IsFree S.stays looks now self.old offenders.old service.old → HoldsAnew (S.wish service.new) now self.new.held }
+        ensures noted { NotesTurn S.offences now self.old service.old service.new offenders.old offenders.new }
+        ensures address { self.new.address ≡ self.old.address }
     {
         if offenders.waits(self.address, now) {
             return Turn::Waits { moved: false };
@@ -152,9 +171,9 @@ impl<T: Read + Write + Drop> Client<T> {
         }
         let before = service.offences();
         let turn = self.take_turn_now(service, now);
-        if turn != (Turn::Waits { moved: false }) {
+        let wrong = service.offences().saturating_sub(before);
+        if turn != (Turn::Waits { moved: false }) || wrong > 0 {
             self.heard = now;
-            let wrong = service.offences().saturating_sub(before);
             offenders.note(self.address, wrong, now);
             return turn;
         }
@@ -170,6 +189,7 @@ impl<T: Read + Write + Drop> Client<T> {
         ensures leads { LeadsTo S.answers service.old service.new }
         ensures turn { TakesTurn S.answers T.remaining self.old self.new service.old service.new }
         ensures held { HoldsAnew (S.wish service.new) now self.new.held }
+        ensures address { self.new.address ≡ self.old.address }
     {
         self.held = None;
         let turn = take_turn(

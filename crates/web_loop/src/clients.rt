@@ -1,7 +1,9 @@
 //! The clients of the server.
-ghost use Rattle.std.specs.Prelude.{◌≡◌, ◌≢◌, ℕ};
+ghost use Rattle.std.specs.Prelude.{◌≡◌, ◌≢◌, ◌-◌, ◌||◌, ℕ, nat_le, if◌then◌else◌};
+ghost use Rattle.std.specs.Time.{instant_nanos};
 ghost use Rattle.slab.specs.Slab.{get};
 ghost use Rattle.web_loop.specs.Turns.{LeadsTo, TurnsIf, TurnsOf};
+ghost use Rattle.web_loop.specs.Waiting.{NotesIf, NotesOf};
 
 use crate::client::Client;
 use crate::offenders::Offenders;
@@ -137,7 +139,8 @@ impl<T: Read + Write + OpenStream + Drop> Clients<T> {
 
     /// Closes the connection of the client under a key, if there is one.
     fn close(&mut self, key: usize)
-        ensures { (other : ℕ) → other ≢ key → get self.new.connected other ≡ get self.old.connected other }
+        ensures others { (other : ℕ) → other ≢ key → get self.new.connected other ≡ get self.old.connected other }
+        ensures offenders { self.new.offenders ≡ self.old.offenders }
     {
         self.connected.try_remove(key);
     }
@@ -176,7 +179,8 @@ impl<T: Read + Write + OpenStream + Drop> Clients<T> {
 
     /// Whether each client is looked at for what it wishes, as after turns in which something was done, and each second.
     fn looks(&mut self, now: Instant) -> bool
-        ensures { self.new.connected ≡ self.old.connected }
+        ensures looks { result ≡ (self.old.moved || nat_le 1000000000 (instant_nanos now - instant_nanos self.old.looked)) }
+        ensures looked { self.new ≡ record self.old { looked = (if result then now else self.old.looked) } }
     {
         let looks = self.moved || now.duration_since(self.looked) >= Duration::from_secs(1);
         if looks {
@@ -190,6 +194,8 @@ impl<T: Read + Write + OpenStream + Drop> Clients<T> {
     pub fn take_turns<S: LastingService>(&mut self, service: &mut S, now: Instant) -> bool
         ensures leads { LeadsTo S.answers service.old service.new }
         ensures turns { TurnsOf S.answers T.remaining (get self.old.connected) self.old.connected.capacity service.old service.new }
+        ensures noted { NotesOf S.offences now (get self.old.connected) self.old.connected.capacity service.old service.new self.old.offenders self.new.offenders }
+        ensures moved { self.new.moved ≡ result }
     {
         let looks = self.looks(now);
         let moved = self.take_each_turn(service, looks, now);
@@ -206,6 +212,7 @@ impl<T: Read + Write + OpenStream + Drop> Clients<T> {
     ) -> bool
         ensures leads { LeadsTo S.answers service.old service.new }
         ensures turns { TurnsOf S.answers T.remaining (get self.old.connected) self.old.connected.capacity service.old service.new }
+        ensures noted { NotesOf S.offences now (get self.old.connected) self.old.connected.capacity service.old service.new self.old.offenders self.new.offenders }
     {
         let mut moved = false;
         for key in 0..self.connected.capacity() {
@@ -224,6 +231,7 @@ impl<T: Read + Write + OpenStream + Drop> Clients<T> {
     ) -> bool
         ensures leads { LeadsTo S.answers service.old service.new }
         ensures turn { TurnsIf S.answers T.remaining (get self.old.connected key) service.old service.new }
+        ensures noted { NotesIf S.offences now (get self.old.connected key) service.old service.new self.old.offenders self.new.offenders }
         ensures others { (other : ℕ) → other ≢ key → get self.new.connected other ≡ get self.old.connected other }
     {
         match turn_at(
@@ -263,6 +271,7 @@ fn turn_at<T: Read + Write + Drop, S: LastingService>(
 ) -> Turn
     ensures leads { LeadsTo S.answers service.old service.new }
     ensures turn { TurnsIf S.answers T.remaining (get connected.old key) service.old service.new }
+    ensures noted { NotesIf S.offences now (get connected.old key) service.old service.new offenders.old offenders.new }
     ensures others { (other : ℕ) → other ≢ key → get connected.new other ≡ get connected.old other }
 {
     match connected.get_mut(key) {
