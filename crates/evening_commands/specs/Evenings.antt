@@ -13,7 +13,7 @@ use Rattle.bridge_cards.specs.declared.scoring.Scoring.TheVariants.{MatchPoints,
 use Rattle.std.specs.Option.{option_map}
 use Rattle.evening_draft.specs.ConfigText.{IsFormOf, config_text}
 use Rattle.evening_draft.specs.Names.{ReadsNames}
-use Rattle.evening_draft.specs.Wishing.{MakesEvening, RefusesEvening}
+use Rattle.evening_draft.specs.Wishing.{IsDateAt, MakesEvening, RefusesEvening}
 use Rattle.evening_draft.specs.declared.form.MovementForm.{MovementForm}
 use Rattle.evening_draft.specs.declared.names_refused.NamesFault.{NamesFault}
 use Rattle.evening_draft.specs.declared.refused.DraftRefused.{DraftRefused}
@@ -39,9 +39,9 @@ ReadsList text (Err fault) = ((FILE_BYTES ≤ length text) × (fault ≡ LongLis
     ⊎ ((length text < FILE_BYTES)
     × ((cause : NamesFault) × ReadsNames (lines text) (Err cause) × (fault ≡ Names cause)))
 
--- the date that is given, or some
+-- the date that is given, or that of some second since the beginning of 1970
 abbrev pub HasDate : Option (Bor (List ℕ)) → List ℕ → Type 0
-HasDate given date = IfSome given (λ text. date ≡ text.now)
+HasDate given date = MatchOption given ((seconds : ℕ) × IsDateAt seconds date) (λ text. date ≡ text.now)
 
 -- the seed that is given, or some
 abbrev pub HasSeed : Option (Bor (List ℕ)) → List ℕ → Type 0

@@ -1,8 +1,10 @@
 //! The command `draft`: the configuration of an evening for the pairs in a list of names.
-ghost use Rattle.std.specs.Prelude.{◌≡◌, ◌≢◌, ◌≤◌, Option, Some, length, IfOk, IfErr, MatchResult};
+ghost use Rattle.std.specs.Prelude.{◌≡◌, ◌≢◌, ◌≤◌, ◌/◌, ℕ, Option, Some, length, IfOk, IfErr, MatchResult};
+ghost use Rattle.std.specs.Duration.{as_nanos};
 ghost use Rattle.line_text.specs.Streams.{stream};
 ghost use Rattle.bridge_movement.specs.declared.named.NamedMovement.{NamedMovement};
 ghost use Rattle.bridge_cards.specs.declared.scoring.Scoring.{Scoring};
+ghost use Rattle.evening_draft.specs.Wishing.{IsDateAt};
 ghost use Rattle.evening_commands.specs.TextFile.{OfReader, OfFound, OfFile};
 ghost use Rattle.evening_commands.specs.Evenings.{HasMovement, scoring_name, HasSeed, LacksSeed, MakesOn, Makes, WritesConfig, WritesMade, DraftsList, Drafts, evening_fault};
 ghost use Rattle.evening_commands.specs.NamesView.{list_seen};
@@ -22,21 +24,33 @@ use std::fs::File;
 use std::io::{self, Read, Write};
 use std::random::RandomSource;
 use std::rt::Files;
-use std::time::Clock;
+use std::time::{Clock, Duration};
 
 /// What the system gives for a draft.
 pub trait Giver: Clock + RandomSource {}
 
 impl<S: Clock + RandomSource> Giver for S {}
 
+/// The date of a time since the beginning of 1970, by UTC.
+fn date_of(time: Duration) -> Result<DateText, EveningFault>
+    ensures date { IfOk result (λ date. IsDateAt (as_nanos time / 1000000000) date.bytes) }
+    ensures fault { IfErr result (λ fault. fault ≡ EveningFault.Clock) }
+{
+    match date_at(time.as_secs()) {
+        Some(date) => Ok(date),
+        None => Err(EveningFault::Clock),
+    }
+}
+
 /// Today's date, by UTC.
 fn today<S: Clock>(rt: &S) -> Result<DateText, EveningFault>
-    ensures { IfErr result (λ fault. fault ≡ EveningFault.Clock) }
+    ensures date { IfOk result (λ date. (seconds : ℕ) × IsDateAt seconds date.bytes) }
+    ensures fault { IfErr result (λ fault. fault ≡ EveningFault.Clock) }
 {
-    let Ok(time) = rt.since_1970() else {
-        return Err(EveningFault::Clock);
-    };
-    date_at(time.as_secs()).ok_or(EveningFault::Clock)
+    match rt.since_1970() {
+        Ok(time) => date_of(time),
+        Err(_) => Err(EveningFault::Clock),
+    }
 }
 
 /// Random bytes.

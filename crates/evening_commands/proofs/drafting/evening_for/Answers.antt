@@ -13,4 +13,4 @@ returns-in-Some g c =
 
 pub returns-in_ok-date-in-None : goal.returns-in_ok-date-in-None
 returns-in_ok-date-in-None g c =
-    inr (c.as_str.result.now, c.in_ok-seed.seed, rw c.in-None.is tt, c.in_ok-seed.ensures.seed, c.evening_on-in-None.ensures)
+    inr (c.as_str.result.now, c.in_ok-seed.seed, rw c.in-None.is (rw c.as_str.ensures.value c.in_ok-date-in-None.ensures.date), c.in_ok-seed.ensures.seed, c.evening_on-in-None.ensures)
