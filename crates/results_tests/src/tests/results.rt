@@ -1,6 +1,6 @@
 //! Worked results of three tables, three rounds and three boards, each worked out by hand from the Laws.
 mod event;
-mod event_results;
+mod event_pages;
 mod exports;
 mod games;
 mod html;
