@@ -11,6 +11,7 @@ use Rattle.event_ranking.specs.EventRanking.{IsFieldRanking}
 use Rattle.event_results.specs.EventTables.{plays_table, rankings_table}
 use Rattle.event_results.specs.EventPage.{page_text}
 use Rattle.event_results.specs.Kept.{AreFieldRankings}
+use Rattle.event_results.specs.Rankings.{RankingsValue}
 use Rattle.event_object.specs.EventObject.{IsEventObjectText}
 use Rattle.event_pbn.specs.EventGames.{event_games}
 use Rattle.page_layout.specs.declared.format.Format.{Format}
@@ -31,9 +32,8 @@ MakeableBoards = List (Option Makeable)
 
 -- the page of sections with their rankings and what could be made on these boards
 abbrev pub IsEventPage : Format → MakeableBoards → List SessionValue → List ℕ → Type 0
-IsEventPage format boards sections text =
-    (first second : List SectionRanked) × (firsts seconds : List (List SectionRanked)) × AreFieldRankings sections First first firsts
-    × AreFieldRankings sections Second second seconds × (text ≡ page_text format boards sections first firsts second seconds)
+IsEventPage format boards sections text = (first second : RankingsValue) × AreFieldRankings sections First first
+    × AreFieldRankings sections Second second × (text ≡ page_text format boards sections first second)
 
 -- their rankings over all
 abbrev pub AreRankings : List SessionValue → List SectionRanked → List SectionRanked → Type 0

@@ -149,6 +149,7 @@ fn write_object<W: Write>(
     results: &EventResults<'_>,
     output: &mut W,
 ) -> Result<(), RunFault>
+    requires { IsField results.now }
     ensures { TellsEventObject results.now (stream W.contents output.old output.new) result }
 {
     match event_object_text(alloc, results) {
@@ -165,6 +166,7 @@ fn write_asked<W: Write>(
     asked: EventAsked,
     output: &mut W,
 ) -> Result<(), RunFault>
+    requires { IsField results.now }
     ensures { TellsAskedOf asked results.now (stream W.contents output.old output.new) result }
 {
     match asked {

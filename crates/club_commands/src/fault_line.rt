@@ -148,7 +148,8 @@ fn stream_line(fault: ServeFault) -> FaultLine
 }
 
 fn store_line(fault: StoreFault) -> FaultLine
-    ensures { result.bytes ≡ store_line fault }
+    ensures text { result.bytes ≡ store_line fault }
+    ensures short { length result.bytes ≤ 36 }
 {
     match fault {
         StoreFault::TooSmall => line_of("disk too small\n"),
@@ -161,7 +162,8 @@ fn store_line(fault: StoreFault) -> FaultLine
 }
 
 fn damaged_line(sector: u32) -> FaultLine
-    ensures { result.bytes ≡ store_line (StoreFault.Damaged sector) }
+    ensures text { result.bytes ≡ store_line (StoreFault.Damaged sector) }
+    ensures short { length result.bytes ≤ 36 }
 {
     let mut line = FaultLine::new();
     line.push_str("damaged sector ");
