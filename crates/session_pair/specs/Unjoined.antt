@@ -47,10 +47,10 @@ module _ {D : Type 0} (disk : Disk D) where
   IsUnread d d' cause = Quiet disk d d'
       × (((disk.count d < sector_count) × (cause ≡ TooSmall)) ⊎ IsUnseen session_keeping disk header_in d d' cause)
 
-  -- how two disks stand was not found: one gave no session, or both did, and they are not joined
+  -- how two disks stand was not found: the disk gave no session, or it did and the copy gave none, or both did and are not joined
   abbrev pub CannotJudge : D → D → D → D → JoinFault → Type 0
   CannotJudge d e d' e' fault = ((cause : StoreFault) × (fault ≡ NoDisk cause) × IsUnread d d' cause)
-      ⊎ (((cause : StoreFault) × (fault ≡ NoCopy cause) × IsUnread e e' cause)
+      ⊎ (((cause : StoreFault) × (ours : Held) × (fault ≡ NoCopy cause) × IsHeld d d' ours × IsUnread e e' cause)
       ⊎ ((ours : Held) × (theirs : Held) × IsHeld d d' ours × IsHeld e e' theirs
       × IsUnjudged ours.state ours.epoch theirs.state theirs.epoch fault))
 

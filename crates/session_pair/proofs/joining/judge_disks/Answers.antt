@@ -49,7 +49,9 @@ pub returns-in-Err-read_state-clause-fault : goal.returns-in-Err-read_state-clau
 returns-in-Err-read_state-clause-fault g c =
     inr (inl (
       c.in-Err-read_state.fault,
+      c.in-Ok.ours,
       refl,
+      (c.read_state.ensures.quiet, c.in-Ok.ensures.seen),
       unread g.D.SectorDisk.disk c.args.copy.now c.read_state-in-Ok.new.disk c.read_state-in-Ok.result
           c.in-Err-read_state.fault c.in-Err-read_state.is c.read_state-in-Ok.ensures.quiet c.read_state-in-Ok.ensures.too_small
           c.in-Err-read_state.ensures.unseen,
