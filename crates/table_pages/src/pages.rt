@@ -1,5 +1,5 @@
 //! The pages, and the lines that they post.
-ghost use Rattle.std.specs.Prelude.{◌≡◌, ◌<◌, ◌⊎◌, ℕ, List, [], true, false, not, length, nat_lt, string_bytes, OnOk, OnErr, if◌then◌else◌};
+ghost use Rattle.std.specs.Prelude.{◌≡◌, ◌<◌, ◌⊎◌, ℕ, List, [], None, true, false, not, length, nat_lt, string_bytes, OnOk, OnErr, if◌then◌else◌};
 ghost use Rattle.http_server.specs.Response.{IsBlank};
 ghost use Rattle.http.specs.Request.{head_of};
 ghost use Rattle.web_requests.specs.Filled.{IsText, IsUnavailable};
@@ -80,6 +80,7 @@ impl<T: LineServer, K: Seconds> TablePages<T, K> {
         ensures texts { result.texts ≡ texts }
         ensures begun { (result.wrong ≡ 0) × (result.is_open ≡ false) × (result.people.items ≡ []) }
         ensures desk { result.desk ≡ desk }
+        ensures wishes { (result.wishes.wish ≡ None) × (result.wishes.waits ≡ 0) }
     {
         TablePages {
             alloc,

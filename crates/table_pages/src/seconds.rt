@@ -1,4 +1,7 @@
 //! Seconds since a server began.
+ghost use Rattle.std.specs.Prelude.{◌≡◌, ◌/◌, min};
+ghost use Rattle.std.specs.Duration.{as_nanos};
+
 use std::time::{Clock, Duration, Instant};
 
 /// What tells the seconds since a server began.
@@ -37,6 +40,8 @@ impl<N: Clock> Seconds for ServerClock<'_, N> {
 }
 
 /// The whole seconds of a time, or so many as a `u32` can count.
-fn seconds_of(time: Duration) -> u32 {
+fn seconds_of(time: Duration) -> u32
+    ensures { result ≡ min (as_nanos time / 1000000000) 4294967295 }
+{
     u32::try_from(time.as_secs()).unwrap_or(u32::MAX)
 }

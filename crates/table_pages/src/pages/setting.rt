@@ -11,6 +11,7 @@ impl<T: LineServer, K: Seconds> TablePages<T, K> {
         ensures open { self.new.is_open ≡ true }
         ensures server { self.new.server ≡ self.old.server }
         ensures fixed { (self.new.names ≡ self.old.names) × (self.new.texts ≡ self.old.texts) × (self.new.people ≡ self.old.people) }
+        ensures wishes { self.new.wishes ≡ self.old.wishes }
         ensures wrong { self.new.wrong ≡ self.old.wrong }
         ensures desk { self.new.desk ≡ self.old.desk }
     {
@@ -22,6 +23,7 @@ impl<T: LineServer, K: Seconds> TablePages<T, K> {
         ensures people { self.new.people ≡ people }
         ensures server { self.new.server ≡ self.old.server }
         ensures fixed { (self.new.names ≡ self.old.names) × (self.new.texts ≡ self.old.texts) }
+        ensures wishes { self.new.wishes ≡ self.old.wishes }
         ensures wrong { self.new.wrong ≡ self.old.wrong }
         ensures beside { (self.new.is_open ≡ self.old.is_open) × (self.new.desk ≡ self.old.desk) }
     {
