@@ -7,6 +7,7 @@ pub mod Site
 pub mod WrongKeys
 pub mod Opened
 pub mod Stands
+pub mod Seconds
 pub mod Waits
 pub mod FirstLine
 pub mod Keeping

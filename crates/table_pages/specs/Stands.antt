@@ -7,11 +7,12 @@ use Rattle.web_requests.specs.declared.route.Route.{Route}
 use Rattle.web_requests.specs.declared.route.Route.TheVariants.{Desk}
 use Rattle.web_requests.specs.Filled.{IsText, IsUnavailable}
 
-module _ {T : Type 0} (desks : T → DeskType → ℕ → List ℕ → List ℕ) (stands : T → DeskType → ℕ → List ℕ → DeskType) where
-  -- What was asked at some second was told by what stood before, and is what stands from then on; where memory is refused nothing
-  -- is told.
+module _ {T : Type 0} (desks : T → DeskType → ℕ → List ℕ → List ℕ) (stands : T → DeskType → ℕ → List ℕ → DeskType) (shows : ℕ → Type 0) where
+  -- What was asked at a second that the clock shows was told by what stood before, and is what stands from then on; where memory
+  -- is refused nothing is told.
   pub record AnswersDesk (server : T) (old : DeskType) (body : List ℕ) (response : Response) (new : DeskType) : Type 0 where
     pub at : ℕ
+    pub shown : shows at
     pub told : IsText kind.Lines (desks server old at body) response ⊎ IsUnavailable response
     pub left : new ≡ stands server old at body
 

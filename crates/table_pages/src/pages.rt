@@ -80,6 +80,7 @@ impl<T: LineServer, K: Seconds> TablePages<T, K> {
         ensures texts { result.texts ≡ texts }
         ensures begun { (result.wrong ≡ 0) × (result.is_open ≡ false) × (result.people.items ≡ []) }
         ensures desk { result.desk ≡ desk }
+        ensures clock { result.clock ≡ clock }
         ensures wishes { (result.wishes.wish ≡ None) × (result.wishes.waits ≡ 0) }
     {
         TablePages {
@@ -242,7 +243,8 @@ impl<T: LineServer, K: Seconds> Service for TablePages<T, K> {
         × Counts T.counts T.wrong_key T.wrong_at_boards T.wrong_at_desk (route_for (string_bytes old.names.host) (string_bytes old.names.alias) (head_of request))
         old.server (body_of request) old.wrong response new.wrong
         × Opens T.boards T.opens (route_for (string_bytes old.names.host) (string_bytes old.names.alias) (head_of request)) old.server old.is_open (body_of request) response new.is_open
-        × Stands T.desks T.stands (route_for (string_bytes old.names.host) (string_bytes old.names.alias) (head_of request)) old.server old.desk (body_of request) response new.desk
+        × Stands T.desks T.stands (K.shows old.clock) (route_for (string_bytes old.names.host) (string_bytes old.names.alias) (head_of request))
+        old.server old.desk (body_of request) response new.desk
         × Keeps (wish_of T.waits (route_for (string_bytes old.names.host) (string_bytes old.names.alias) (head_of request)) old.server (body_of request)) old.wishes new.wishes
         × (new.people ≡ old.people) };
 

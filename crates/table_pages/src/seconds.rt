@@ -1,13 +1,18 @@
 //! Seconds since a server began.
-ghost use Rattle.std.specs.Prelude.{◌≡◌, ◌/◌, min};
+ghost use Rattle.std.specs.Prelude.{◌≡◌, ℕ};
 ghost use Rattle.std.specs.Duration.{as_nanos};
+ghost use Rattle.table_pages.specs.Seconds.{whole_seconds, Shows};
 
 use std::time::{Clock, Duration, Instant};
 
 /// What tells the seconds since a server began.
 pub trait Seconds: Drop {
+    // so many seconds have passed
+    ghost shows: { Self → ℕ → Type 0 };
+
     /// How many seconds have passed.
-    fn seconds(&self) -> u32;
+    fn seconds(&self) -> u32
+        ensures { shows self.now result };
 }
 
 /// The clock of a server, which goes on from where it began.
@@ -30,6 +35,8 @@ impl<'a, N: Clock> ServerClock<'a, N> {
 }
 
 impl<N: Clock> Seconds for ServerClock<'_, N> {
+    ghost shows = { λ clock at. Shows clock.begun at };
+
     /// None where the time cannot be read, at which the server ends.
     fn seconds(&self) -> u32 {
         match (self.begun, Instant::now(self.rt)) {
@@ -41,7 +48,7 @@ impl<N: Clock> Seconds for ServerClock<'_, N> {
 
 /// The whole seconds of a time, or so many as a `u32` can count.
 fn seconds_of(time: Duration) -> u32
-    ensures { result ≡ min (as_nanos time / 1000000000) 4294967295 }
+    ensures { result ≡ whole_seconds (as_nanos time) }
 {
     u32::try_from(time.as_secs()).unwrap_or(u32::MAX)
 }

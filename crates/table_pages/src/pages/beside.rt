@@ -61,7 +61,7 @@ impl<T: LineServer, K: Seconds> TablePages<T, K> {
     /// Takes what is posted to the desk, and answers it. Where memory is refused once it was taken, the response says nothing.
     pub(super) fn put_desk(&mut self, body: &[u8], response: &mut Response)
         requires { IsBlank response.old }
-        ensures desk { AnswersDesk T.desks T.stands self.old.server self.old.desk body.now response.new self.new.desk }
+        ensures desk { AnswersDesk T.desks T.stands (K.shows self.old.clock) self.old.server self.old.desk body.now response.new self.new.desk }
         ensures counted { CountsLines (λ count. count ≡ (if T.wrong_at_desk self.old.server body.now then 1 else 0)) self.old.wrong response.new self.new.wrong }
         ensures server { self.new.server ≡ self.old.server }
         ensures fixed { (self.new.names ≡ self.old.names) × (self.new.texts ≡ self.old.texts) × (self.new.people ≡ self.old.people) × (self.new.wishes ≡ self.old.wishes) }
