@@ -10,7 +10,7 @@ use Rattle.line_text.specs.Streams.{Stream, Written}
 use Rattle.page_layout.specs.declared.format.Format.{Format}
 use Rattle.page_layout.specs.Page.{section_end, page_end}
 use Rattle.page_layout.specs.Table.{row_text, title_row, table_start, table_end}
-use Rattle.bridge_results.specs.EventText.{event_text}
+use Rattle.event_results.specs.EventHead.{event_head}
 use Rattle.bridge_results.specs.MakeableText.{MakeableBoards, makeable_on}
 use Rattle.bridge_results.specs.BoardText.{board_head, deal_text, line_cells}
 use Rattle.bridge_results.specs.ResultsText.{sheet_head}
@@ -102,7 +102,8 @@ boards_text format boards sections =
 
 -- the head of the page, by the first section's configuration
 abbrev pub first_event : Format → List SessionValue → List ℕ
-first_event format sections = option_map_or (λ (s : SessionValue). event_text format s.configuration) (slice_get sections 0) []
+first_event format sections =
+    option_map_or (λ (s : SessionValue). event_head format s.configuration (length sections)) (slice_get sections 0) []
 
 -- the boards, and what ends the page
 abbrev pub rest_text : Format → MakeableBoards → List SessionValue → List ℕ

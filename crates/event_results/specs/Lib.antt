@@ -3,4 +3,5 @@ pub mod EventTraveller
 pub mod Rankings
 pub mod Kept
 pub mod EventTables
+pub mod EventHead
 pub mod EventPage

@@ -2,6 +2,7 @@
 mod board;
 mod boards;
 mod deal;
+mod head;
 mod page;
 mod sheets;
 

@@ -2,7 +2,7 @@
 ghost use Rattle.std.specs.Prelude.{◌≡◌, ◌<◌, true, false, None, IsNone, length};
 ghost use Rattle.std.specs.Bool.{Decides};
 ghost use Rattle.http_server.specs.Connection.{history};
-ghost use Rattle.web_loop.specs.Turns.{LeadsTo, TakesTurn};
+ghost use Rattle.web_loop.specs.Turns.{LeadsTo, Sends, TakesTurn};
 ghost use Rattle.web_loop.specs.Waiting.{is_late, HoldsAnew, IsFree, IsOnHold, IsPutOff, StaysPutOff, NotesTurn};
 
 use crate::offenders::{Offenders, millis};
@@ -132,6 +132,7 @@ impl<T: Read + Write + Drop> Client<T> {
         ensures held { HoldsAnew (S.wish service.now) now self.new.held }
         ensures connection { self.new.connection ≡ self.old.connection }
         ensures reader { self.new.reader ≡ self.old.reader }
+        ensures writer { self.new.writer ≡ self.old.writer }
         ensures address { self.new.address ≡ self.old.address }
     {
         self.held = match service.wish() {
@@ -159,6 +160,8 @@ impl<T: Read + Write + Drop> Client<T> {
         ensures turn { TakesTurn S.answers T.remaining self.old self.new service.old service.new }
         ensures held { IsOnHold S.stays looks now service.old self.old.held → IsPutOff self.old self.new service.old service.new }
         ensures free { IsFree S.stays looks now self.old offenders.old service.old → HoldsAnew (S.wish service.new) now self.new.held }
+        ensures anew { IsFree S.stays looks now self.old offenders.old service.old → S.waits service.new ≡ S.waits service.old → self.new.held ≡ None }
+        ensures written { Sends (history self.old.connection) (history self.new.connection) (T.contents self.old.writer) (T.contents self.new.writer) }
         ensures noted { NotesTurn S.offences now self.old service.old service.new offenders.old offenders.new }
         ensures address { self.new.address ≡ self.old.address }
     {
@@ -189,8 +192,11 @@ impl<T: Read + Write + Drop> Client<T> {
         ensures leads { LeadsTo S.answers service.old service.new }
         ensures turn { TakesTurn S.answers T.remaining self.old self.new service.old service.new }
         ensures held { HoldsAnew (S.wish service.new) now self.new.held }
+        ensures anew { S.waits service.new ≡ S.waits service.old → self.new.held ≡ None }
+        ensures written { Sends (history self.old.connection) (history self.new.connection) (T.contents self.old.writer) (T.contents self.new.writer) }
         ensures address { self.new.address ≡ self.old.address }
     {
+        let before = service.waits();
         self.held = None;
         let turn = take_turn(
             &mut self.connection,
@@ -198,7 +204,7 @@ impl<T: Read + Write + Drop> Client<T> {
             &mut self.reader,
             &mut self.writer,
         );
-        if turn == Turn::Holds {
+        if turn == Turn::Holds && service.waits() != before {
             self.hold(service, now);
         }
         turn

@@ -1,18 +1,35 @@
 //! The results of several sections as a page, whole.
+ghost use Rattle.std.specs.Prelude.{◌≤◌, length};
 ghost use Rattle.line_text.specs.Streams.{stream, Written};
+ghost use Rattle.event_results.specs.EventHead.{event_head};
 ghost use Rattle.event_results.specs.EventPage.{first_event, rest_text, page_text, WritesEventPage};
 
 use crate::pages::boards::write_board_sheet;
+use crate::pages::head::event_head;
 use crate::pages::sheets::write_sheets;
 use crate::rankings::FieldRankings;
 use crate::results::EventResults;
+use bridge_config::Config;
 use bridge_ranking::Field;
 use bridge_results::Makeable;
-use bridge_results::pages::page::{write_event, write_page_end};
+use bridge_results::pages::page::write_page_end;
 use bridge_session::Session;
 use line_text::write_text;
 use page_layout::Format;
 use std::io::{Error, Write};
+
+/// Writes the head of the page, by a configuration.
+fn write_head<W: Write>(
+    format: Format,
+    config: &Config,
+    sections: u32,
+    writer: &mut W,
+) -> Result<(), Error>
+    ensures { Written (stream W.contents writer.old writer.new) (event_head format config.now sections) result }
+{
+    let text = event_head(format, config, sections);
+    write_text(writer, text.as_slice())
+}
 
 /// Writes the head of the page, by the first section's configuration.
 fn write_first_event<W: Write>(
@@ -20,10 +37,11 @@ fn write_first_event<W: Write>(
     sections: &[Session],
     writer: &mut W,
 ) -> Result<(), Error>
+    requires { length sections.now ≤ 40 }
     ensures { Written (stream W.contents writer.old writer.new) (first_event format sections.now) result }
 {
     match sections.first() {
-        Some(session) => write_event(format, session.config(), writer),
+        Some(session) => write_head(format, session.config(), sections.len() as u32, writer),
         None => write_text(writer, b""),
     }
 }
