@@ -46,7 +46,7 @@ fn expect_traveller(rt: &impl Abort, results: &EventResults) {
 
 /// What the page has: the head, the rankings, and the traveller of board 1.
 static PARTS: [&str; 5] = [
-    "Club-Night\nTown-Hall, 2026.03.14\nMatchpoints\nTables: 3, boards: 3, rounds: 3\n\nRanking of all sections, field 1\n",
+    "Club-Night\nTown-Hall, 2026.03.14\nMatchpoints\nSections: 2\n\nRanking of all sections, field 1\n",
     "\nRanking of section B, field 2\n",
     "\nBoard 1\nDealer: N, vulnerable: None\n",
     "  Section  Round  Table     NS     EW  Contract  By    Lead   Tricks      Score   NS gain   EW gain\n        A      2      3      3      5  ",
