@@ -34,18 +34,18 @@ section_text section =
 abbrev pub share_of : SectionRanked → Option ℕ
 share_of ranked = share_percent (record { place = 0; pair = ranked.pair; value = ranked.value; available = ranked.available })
 
--- the row of a pair by matchpoints: place, section, pair, names, matchpoints, those available, and the percentage
+-- the row of a pair by matchpoints: place, percentage, section, pair, names, and matchpoints
 abbrev pub share_row : Format → List ℕ → SectionRanked → List ℕ
 share_row format names ranked =
     row_text format SHARE_COLUMNS
-    (decimal ranked.place ∷ section_text ranked.section ∷ decimal ranked.pair ∷ names ∷ tenths_text (unsigned_abs ranked.value)
-    ∷ tenths_text ranked.available ∷ percent_text (share_of ranked) ∷ [])
+    (decimal ranked.place ∷ percent_text (share_of ranked) ∷ section_text ranked.section ∷ decimal ranked.pair ∷ names
+    ∷ tenths_text (unsigned_abs ranked.value) ∷ [])
 
--- the row of a pair by IMPs: place, section, pair, names, and the sum
+-- the row of a pair by IMPs: place, sum, section, pair, and names
 abbrev pub sum_row : Format → List ℕ → SectionRanked → List ℕ
 sum_row format names ranked =
     row_text format SUM_COLUMNS
-    (decimal ranked.place ∷ section_text ranked.section ∷ decimal ranked.pair ∷ names ∷ signed_decimal ranked.value ∷ [])
+    (decimal ranked.place ∷ signed_decimal ranked.value ∷ section_text ranked.section ∷ decimal ranked.pair ∷ names ∷ [])
 
 -- the row of a pair
 abbrev pub wide_row : Format → Scoring → List ℕ → SectionRanked → List ℕ
@@ -56,9 +56,9 @@ wide_row format Imps names ranked = sum_row format names ranked
 abbrev pub wide_titles : Format → Scoring → List ℕ
 wide_titles format MatchPoints =
     title_row format SHARE_COLUMNS
-    (codes "Place" ∷ codes "Section" ∷ codes "Pair" ∷ codes "Names" ∷ codes "MP" ∷ codes "Available" ∷ codes "%" ∷ [])
+    (codes "Place" ∷ codes "%" ∷ codes "Section" ∷ codes "Pair" ∷ codes "Names" ∷ codes "MP" ∷ [])
 wide_titles format Imps =
-    title_row format SUM_COLUMNS (codes "Place" ∷ codes "Section" ∷ codes "Pair" ∷ codes "Names" ∷ codes "IMPs" ∷ [])
+    title_row format SUM_COLUMNS (codes "Place" ∷ codes "IMPs" ∷ codes "Section" ∷ codes "Pair" ∷ codes "Names" ∷ [])
 
 -- the names of a pair, as its section's configuration has them
 abbrev pub names_of : List SessionValue → SectionRanked → List ℕ

@@ -3,6 +3,7 @@ ghost use Rattle.std.specs.Prelude.{◌≡◌, ◌≤◌, ◌∷◌, [], map};
 ghost use Rattle.bridge_results.specs.Columns.{width_of};
 ghost use Rattle.event_ranking.specs.declared.columns.TheConstants.{SHARE_COLUMNS as share_columns, SUM_COLUMNS as sum_columns};
 
+use bridge_config::NAMES_BYTES;
 use page_layout::columns::{NUMBER, SMALL};
 use page_layout::{Align, Column, Content};
 
@@ -15,16 +16,16 @@ const VALUE: Column = Column {
 
 /// The names of a pair.
 const NAMES: Column = Column {
-    width: 44,
+    width: NAMES_BYTES,
     align: Align::Left,
     content: Content::Words,
 };
 
-/// By matchpoints: place, section, pair, names, matchpoints, those available, and the percentage.
-pub const SHARE_COLUMNS: [Column; 7] = [SMALL, NUMBER, SMALL, NAMES, VALUE, VALUE, NUMBER];
+/// By matchpoints: place, percentage, section, pair, names, and matchpoints.
+pub const SHARE_COLUMNS: [Column; 6] = [SMALL, NUMBER, NUMBER, SMALL, NAMES, VALUE];
 
-/// By IMPs: place, section, pair, names, and the sum.
-pub const SUM_COLUMNS: [Column; 5] = [SMALL, NUMBER, SMALL, NAMES, VALUE];
+/// By IMPs: place, sum, section, pair, and names.
+pub const SUM_COLUMNS: [Column; 5] = [SMALL, VALUE, NUMBER, SMALL, NAMES];
 
 /// The columns take at most 100 bytes of a line of plain text.
 pub fn rankings_are_narrow()

@@ -51,16 +51,14 @@ fn share_row(format: Format, names: &str, ranked: &SectionRanked) -> PageText
     let section = section_letters(ranked.section);
     let pair = number_text(u32::from(ranked.pair));
     let value = points_cell(ranked);
-    let available = tenths_text(u64::from(ranked.available));
     let percent = percent_text(share_of(ranked));
     let cells = [
         place.as_str().as_bytes(),
+        percent.as_str().as_bytes(),
         section.as_str().as_bytes(),
         pair.as_str().as_bytes(),
         names.as_bytes(),
         value.as_str().as_bytes(),
-        available.as_str().as_bytes(),
-        percent.as_str().as_bytes(),
     ];
     let mut text = PageText::new();
     push_row(&mut text, format, &SHARE_COLUMNS, &cells);
@@ -78,10 +76,10 @@ fn sum_row(format: Format, names: &str, ranked: &SectionRanked) -> PageText
     let value = imps_cell(ranked);
     let cells = [
         place.as_str().as_bytes(),
+        value.as_str().as_bytes(),
         section.as_str().as_bytes(),
         pair.as_str().as_bytes(),
         names.as_bytes(),
-        value.as_str().as_bytes(),
     ];
     let mut text = PageText::new();
     push_row(&mut text, format, &SUM_COLUMNS, &cells);
@@ -114,21 +112,13 @@ pub fn push_wide_titles(text: &mut PageText, format: Format, scoring: Scoring)
             text,
             format,
             &SHARE_COLUMNS,
-            &[
-                b"Place",
-                b"Section",
-                b"Pair",
-                b"Names",
-                b"MP",
-                b"Available",
-                b"%",
-            ],
+            &[b"Place", b"%", b"Section", b"Pair", b"Names", b"MP"],
         ),
         Scoring::Imps => push_titles(
             text,
             format,
             &SUM_COLUMNS,
-            &[b"Place", b"Section", b"Pair", b"Names", b"IMPs"],
+            &[b"Place", b"IMPs", b"Section", b"Pair", b"Names"],
         ),
     }
 }
