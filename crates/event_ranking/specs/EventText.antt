@@ -15,7 +15,7 @@ use Rattle.page_layout.specs.declared.format.Section.TheVariants as part
 use Rattle.line_text.specs.Decimals.{tenths_text, percent_text}
 use Rattle.page_layout.specs.Page.{heading_text, section_start, section_end}
 use Rattle.page_layout.specs.Table.{row_text, title_row, table_start, table_end}
-use Rattle.event_ranking.specs.declared.columns.TheConstants.{SHARE_COLUMNS, SUM_COLUMNS}
+use Rattle.bridge_results.specs.declared.pages.columns.TheConstants.{SHARE_COLUMNS, SUM_COLUMNS}
 use Rattle.event_ranking.specs.declared.ranking.SectionRanked.{SectionRanked}
 use Rattle.event_ranking.specs.declared.sheet.Among.{Among}
 use Rattle.event_ranking.specs.declared.sheet.Among.TheVariants.{Event, Section}
@@ -34,18 +34,22 @@ section_text section =
 abbrev pub share_of : SectionRanked → Option ℕ
 share_of ranked = share_percent (record { place = 0; pair = ranked.pair; value = ranked.value; available = ranked.available })
 
--- the row of a pair by matchpoints: place, percentage, section, pair, names, and matchpoints
+-- the section and the number of a pair
+abbrev pub pair_text : SectionRanked → List ℕ
+pair_text ranked = section_text ranked.section ++ decimal ranked.pair
+
+-- the row of a pair by matchpoints: place, section and pair, names, matchpoints, those available, and the percentage
 abbrev pub share_row : Format → List ℕ → SectionRanked → List ℕ
 share_row format names ranked =
     row_text format SHARE_COLUMNS
-    (decimal ranked.place ∷ percent_text (share_of ranked) ∷ section_text ranked.section ∷ decimal ranked.pair ∷ names
-    ∷ tenths_text (unsigned_abs ranked.value) ∷ [])
+    (decimal ranked.place ∷ pair_text ranked ∷ names ∷ tenths_text (unsigned_abs ranked.value)
+    ∷ tenths_text ranked.available ∷ percent_text (share_of ranked) ∷ [])
 
--- the row of a pair by IMPs: place, sum, section, pair, and names
+-- the row of a pair by IMPs: place, section and pair, names, and the sum
 abbrev pub sum_row : Format → List ℕ → SectionRanked → List ℕ
 sum_row format names ranked =
     row_text format SUM_COLUMNS
-    (decimal ranked.place ∷ signed_decimal ranked.value ∷ section_text ranked.section ∷ decimal ranked.pair ∷ names ∷ [])
+    (decimal ranked.place ∷ pair_text ranked ∷ names ∷ signed_decimal ranked.value ∷ [])
 
 -- the row of a pair
 abbrev pub wide_row : Format → Scoring → List ℕ → SectionRanked → List ℕ
@@ -56,9 +60,9 @@ wide_row format Imps names ranked = sum_row format names ranked
 abbrev pub wide_titles : Format → Scoring → List ℕ
 wide_titles format MatchPoints =
     title_row format SHARE_COLUMNS
-    (codes "Place" ∷ codes "%" ∷ codes "Section" ∷ codes "Pair" ∷ codes "Names" ∷ codes "MP" ∷ [])
+    (codes "Place" ∷ codes "Pair" ∷ codes "Names" ∷ codes "MP" ∷ codes "Available" ∷ codes "%" ∷ [])
 wide_titles format Imps =
-    title_row format SUM_COLUMNS (codes "Place" ∷ codes "IMPs" ∷ codes "Section" ∷ codes "Pair" ∷ codes "Names" ∷ [])
+    title_row format SUM_COLUMNS (codes "Place" ∷ codes "Pair" ∷ codes "Names" ∷ codes "IMPs" ∷ [])
 
 -- the names of a pair, as its section's configuration has them
 abbrev pub names_of : List SessionValue → SectionRanked → List ℕ

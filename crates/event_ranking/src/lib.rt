@@ -8,7 +8,6 @@
 //! ```
 #![tactic(auto)]
 
-pub mod columns;
 pub mod dealt;
 pub mod event;
 pub mod field;

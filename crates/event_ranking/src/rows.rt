@@ -3,13 +3,14 @@ ghost use Rattle.std.specs.Prelude.{◌≡◌, ◌≤◌, ◌++◌, length, map,
 ghost use Rattle.std.specs.Fmt.{signed_decimal};
 ghost use Rattle.line_text.specs.Decimals.{tenths_text as tenths};
 ghost use Rattle.bridge_config.specs.ConfigValue.{pair_of, pair_names};
-ghost use Rattle.event_ranking.specs.EventText.{share_of, share_row, sum_row, wide_row, wide_titles};
+ghost use Rattle.event_ranking.specs.EventText.{pair_text, share_of, share_row, sum_row, wide_row, wide_titles};
 
-use crate::columns::{SHARE_COLUMNS, SUM_COLUMNS};
 use crate::letters::section_letters;
 use crate::ranking::SectionRanked;
+use arrayvec::ArrayString;
 use bridge_cards::Scoring;
 use bridge_config::{NAMES_BYTES, PairFields, pair_names};
+use bridge_results::pages::columns::{SHARE_COLUMNS, SUM_COLUMNS};
 use bridge_score::{Ranked, share_percent};
 use line_text::{NumberText, number_text, percent_text, signed_text, tenths_text};
 use page_layout::{Format, PageText, push_row, push_titles};
@@ -30,6 +31,17 @@ fn imps_cell(ranked: &SectionRanked) -> NumberText
     signed_text(i64::from(ranked.value))
 }
 
+/// The section and the number of a pair.
+fn pair_cell(ranked: &SectionRanked) -> ArrayString<32>
+    ensures text { result.bytes ≡ pair_text ranked.now }
+    ensures short { length result.bytes ≤ 32 }
+{
+    let mut text = ArrayString::new();
+    text.push_str(section_letters(ranked.section).as_str());
+    text.push_str(number_text(u32::from(ranked.pair)).as_str());
+    text
+}
+
 /// What a pair gained of what was available to it, in hundredths of a per cent.
 fn share_of(ranked: &SectionRanked) -> Option<u32>
     ensures { result ≡ share_of ranked.now }
@@ -48,17 +60,17 @@ fn share_row(format: Format, names: &str, ranked: &SectionRanked) -> PageText
     ensures { result.items ≡ share_row format names.now ranked.now }
 {
     let place = number_text(u32::from(ranked.place));
-    let section = section_letters(ranked.section);
-    let pair = number_text(u32::from(ranked.pair));
+    let pair = pair_cell(ranked);
     let value = points_cell(ranked);
+    let available = tenths_text(u64::from(ranked.available));
     let percent = percent_text(share_of(ranked));
     let cells = [
         place.as_str().as_bytes(),
-        percent.as_str().as_bytes(),
-        section.as_str().as_bytes(),
         pair.as_str().as_bytes(),
         names.as_bytes(),
         value.as_str().as_bytes(),
+        available.as_str().as_bytes(),
+        percent.as_str().as_bytes(),
     ];
     let mut text = PageText::new();
     push_row(&mut text, format, &SHARE_COLUMNS, &cells);
@@ -71,15 +83,13 @@ fn sum_row(format: Format, names: &str, ranked: &SectionRanked) -> PageText
     ensures { result.items ≡ sum_row format names.now ranked.now }
 {
     let place = number_text(u32::from(ranked.place));
-    let section = section_letters(ranked.section);
-    let pair = number_text(u32::from(ranked.pair));
+    let pair = pair_cell(ranked);
     let value = imps_cell(ranked);
     let cells = [
         place.as_str().as_bytes(),
-        value.as_str().as_bytes(),
-        section.as_str().as_bytes(),
         pair.as_str().as_bytes(),
         names.as_bytes(),
+        value.as_str().as_bytes(),
     ];
     let mut text = PageText::new();
     push_row(&mut text, format, &SUM_COLUMNS, &cells);
@@ -112,13 +122,13 @@ pub fn push_wide_titles(text: &mut PageText, format: Format, scoring: Scoring)
             text,
             format,
             &SHARE_COLUMNS,
-            &[b"Place", b"%", b"Section", b"Pair", b"Names", b"MP"],
+            &[b"Place", b"Pair", b"Names", b"MP", b"Available", b"%"],
         ),
         Scoring::Imps => push_titles(
             text,
             format,
             &SUM_COLUMNS,
-            &[b"Place", b"IMPs", b"Section", b"Pair", b"Names"],
+            &[b"Place", b"Pair", b"Names", b"IMPs"],
         ),
     }
 }
