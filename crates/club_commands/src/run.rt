@@ -181,6 +181,8 @@ fn fails<E: Write>(fault: RunFault, errors: &mut E) -> u8
     ensures status { result ≡ fault_status fault }
     ensures line { TakesPrefix (stream E.contents errors.old errors.new) (fault_line fault) }
 {
-    let _ = write_text(errors, fault_line(fault).as_str().as_bytes());
-    fault_status(fault)
+    let status = fault_status(fault);
+    let line = fault_line(fault);
+    let _ = write_text(errors, line.as_str().as_bytes());
+    status
 }
