@@ -32,7 +32,7 @@ pub returns-in-Export : goal.returns-in-Export
 returns-in-Export g c = rw c.in-Export.is c.export.ensures
 
 pub returns-in-Event : goal.returns-in-Event
-returns-in-Event g c = rw c.in-Event.is (rw c.in-Event.asked-is at c.run_event.ensures, Keeps-refl _)
+returns-in-Event g c = rw c.in-Event.is (rw c.in-Event.is at c.run_event.ensures, Keeps-refl _)
 
 pub returns-in-Check : goal.returns-in-Check
 returns-in-Check g c = rw c.in-Check.is c.run_check.ensures
