@@ -1,7 +1,7 @@
 #!/bin/sh
-# Evenings of 2 to 12 tables, played by the program, scored by it and by salliere, another scorer (Debian's package salliere,
-# version 0.10): each play's score and gains, and points, percentages and places of each pair in each field, by matchpoints
-# and by cross-IMPs.
+# Evenings of 2 to 12 tables, and an event of ten sections of ten tables, played by the program, scored by it and by salliere,
+# another scorer (Debian's package salliere, version 0.10): each play's score and gains, and points, percentages and places of
+# each pair in each field, by matchpoints and by cross-IMPs.
 #
 #     checks/salliere.sh [SEED]     (of the deals and plays; 1 when left out)
 #

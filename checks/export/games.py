@@ -112,6 +112,23 @@ def compare(text, plays, rankings, results):
         demand(totals.rows == [total_row(two, ranked, scoring) for ranked in rankings], "the totals")
 
 
+def compare_sections(text, plays, rankings, results):
+    """The same of several sections, whose rows begin with the section's letters, and whose pairs have a direction of their own."""
+    scoring = {"matchpoints": "MP", "imps": "IMP"}[results["event"]["scoring"]]
+    games = list(games_of(text))
+    demand([dict(tags)["Board"] for tags, _ in games] == list(dict.fromkeys(play[1] for play in plays)), "games of other boards")
+    for tags, tables in games:
+        board, scores = dict(tags)["Board"], tables["ScoreTable"]
+        demand(scores.columns == ["Section"] + PLAYED + [f"{scoring}_NS", f"{scoring}_EW"], f"columns {scores.columns}")
+        demand(scores.rows == [[play[0], *score_row(play[1:])] for play in plays if play[1] == board], f"the scores of board {board}")
+    if games:
+        totals, two = games[0][1]["TotalScoreTable"], any(ranked[1] == "2" for ranked in rankings)
+        values = ["TotalScoreMP", "TotalPercentage"] if scoring == "MP" else ["TotalIMP"]
+        demand(totals.columns == ["Section", "Direction", "Rank", "PairId", *values, "Names"], f"columns {totals.columns}")
+        demand(totals.rows == [[ranked[0], *total_row(two, ranked[1:], scoring)] for ranked in rankings], "the totals")
+        demand(all("TotalScoreTable" not in tables for _, tables in games[1:]), "a second table of totals")
+
+
 def changed(text):
     """The text with a byte changed, now one and now another; with a line left out; and with one twice."""
     for at in range(0, len(text), 7):

@@ -3,8 +3,8 @@
     read.py PROGRAM FOLDER EXAMPLES SCHEMA
 
 The object is read by Python's json and by jq, checked against the schema, and held against the comma-separated values and the games of
-`pbn`; the games of `export --pbn` against those values, and against what `makeable` finds for the same deals. The status is 1 where
-anything differs.
+`pbn`; the games of `export --pbn` against those values, and against what `makeable` finds for the same deals. Each disk is then read as
+three sections. The status is 1 where anything differs.
 """
 import csv
 import glob
@@ -127,6 +127,24 @@ class Reader:
         demand(not games, f"no plays of {list(games)}")
         return results
 
+    def read_sections(self, disks):
+        """What is exported of the disks as the sections of one event: the object, the values and the games tell the same."""
+        written = self.run("export", *disks, "--json")
+        results = json.loads(written, object_pairs_hook=once)
+        wrong = fault(results, self.schema, self.schema)
+        demand(wrong is None, wrong)
+        self.by_others(written, results)
+        tables = [list(csv.reader(io.StringIO(self.run("export", *disks, *words), newline="")))[1:] for words in ([], ["--rankings"])]
+        notation.compare_sections(self.run("export", *disks, "--pbn", "--no-analysis"), *tables, results)
+        plays = [[field if field != "-" else "" for field in row] for row in tables[0]]
+        sections = [play["section"] for board in results["boards"] for play in board["plays"]]
+        demand(plays == [[section, *row] for section, row in zip(sections, plays_of(results), strict=True)], "other plays than those of export")
+        ranked = [[field if field != "-" else "" for field in row] for row in tables[1]]
+        pairs = results["first"] + (results["second"] or [])
+        demand(ranked == [[pair["section"], *row] for pair, row in zip(pairs, ranked_of(results), strict=True)], "other rankings than those of export")
+        demand(len(results["sections"]) == len(disks), "another number of sections")
+        return len(plays)
+
     def solve(self, disk, folder):
         """How many boards have what could be made in the games: as `makeable` finds it for their deals."""
         deals = os.path.join(folder, "read.pbn")
@@ -186,15 +204,16 @@ def sessions(reader, folder, examples):
 
 
 def main(program, folder, examples, schema):
-    reader, plays, solved, status = Reader(program, schema), 0, 0, 0
+    reader, plays, solved, together, status = Reader(program, schema), 0, 0, 0, 0
     for name, disk in sessions(reader, folder, examples):
         try:
             plays += sum(len(board["plays"]) for board in reader.read(disk)["boards"])
             solved += reader.solve(disk, folder)
+            together += reader.read_sections([disk] * 3)
         except Differs as found:
             print(f"{name}: {found}")
             status = 1
-    print(f"{plays} plays read, {solved} boards solved")
+    print(f"{plays} plays read, {solved} boards solved, {together} plays of three sections read")
     return status
 
 

@@ -1,4 +1,5 @@
 """The program's part: an evening over its `script`, and what its `rank` and `pbn` print of it."""
+import csv
 import itertools
 import os
 import re
@@ -22,9 +23,9 @@ class Club:
         assert len(text) < MOST, "too many lines for one run"
         return subprocess.run([self.program, *words], check=True, input=text, stdout=subprocess.PIPE).stdout.decode()
 
-    def play(self, evening, rounds):
-        """A disk on which the evening was played."""
-        disk, config = os.path.join(self.folder, "club.disk"), os.path.join(self.folder, "config.txt")
+    def play(self, evening, rounds, name="club.disk"):
+        """A disk of that name on which the evening was played."""
+        disk, config = os.path.join(self.folder, name), os.path.join(self.folder, "config.txt")
         for path in [disk, config]:
             if os.path.exists(path):
                 os.remove(path)
@@ -69,6 +70,20 @@ class Club:
             else:
                 fields[-1].append(line.split())
         return fields
+
+    def event_ranking(self, disks, number):
+        """The lines of each field over the sections on these disks, as those of one; a section and a pair have one number."""
+        fields = {}
+        for row in csv.DictReader(self.run("export", *disks, "--rankings").splitlines()):
+            value = row["score"] + (f"/{row['available']}" if row["available"] else "")
+            line = [row["place"], str(number(row["section"], row["pair"])), value, row["percent"]]
+            fields.setdefault(row["field"], []).append(line)
+        return list(fields.values())
+
+    def event_plays(self, disks, number):
+        """Each play with a score, as `export` prints it of the sections."""
+        for row in csv.DictReader(self.run("export", *disks).splitlines()):
+            yield int(row["board"]), tuple(number(row["section"], row[side]) for side in ("ns", "ew")), int(row["score"]), [row["ns_gain"], row["ew_gain"]]
 
     def plays(self, disk):
         """Each play with a score, as the command `results` prints it: board, pairs, score and what both sides gain."""

@@ -230,6 +230,41 @@ def all_evenings(examples):
     yield given
 
 
+# ---- several sections as one field
+
+
+SECTIONS = 10
+
+
+def number(section, pair):
+    """A pair of a section in one list of all."""
+    return 100 * (ord(section) - ord("A")) + int(pair)
+
+
+def compare_sections(club, jar, folder, deals, hands, scoring):
+    """Ten sections of ten tables that play the same boards, beside one list of a hundred tables."""
+    evening = mitchell(10, 2, scoring=scoring)
+    disks, lines = [], []
+    for section in range(SECTIONS):
+        evening.name = f"section {section}"  # by which its auctions are drawn
+        disks.append(club.play(evening, evenings.rounds_lines(evening, deals, hands), f"{section}.disk"))
+        lines += scorer.game_lines(club.games(disks[-1]), 100 * section)
+    evening.name, evening.pairs = f"{SECTIONS} sections of 10 tables", 100 * SECTIONS
+    scored, totals = scorer.scored(jar, folder, evening, lines)
+    boards = defaultdict(list)
+    for hand in scored:
+        boards[hand.board].append(hand)
+    fields = club.event_ranking(disks, number)
+    played = {pair for hand in scored for pair in hand.pairs}
+    demand({int(line[1]) for field in fields for line in field} == played and len(played) == 20 * SECTIONS, "the pairs of the sections")
+    totals = {pair: total for pair, total in totals.items() if pair in played}
+    compare_plays(evening, club.event_plays(disks, number), boards)
+    apart = compare_matchpoints(fields, boards, totals) if scoring == "MP" else compare_imps(fields, boards, totals)
+    compare_places(fields, totals, scoring)
+    evening.pairs = len(played)
+    told(evening, boards, apart or [], totals)
+
+
 def main(program, jar, folder, examples, seed):
     club = Club(program, folder)
     deals = f"{random.Random(seed).getrandbits(256):064x}"
@@ -237,7 +272,7 @@ def main(program, jar, folder, examples, seed):
     wrong = 0
     for evening in all_evenings(examples):
         disk = club.play(evening, evenings.rounds_lines(evening, deals, hands))
-        scored, totals = scorer.scored(jar, folder, evening, club.games(disk))
+        scored, totals = scorer.scored(jar, folder, evening, scorer.board_lines(evening, club.games(disk)))
         try:
             boards, apart = compare(evening, club.ranking(disk), club.plays(disk), scored, totals)
             told(evening, boards, apart, totals)
@@ -245,6 +280,12 @@ def main(program, jar, folder, examples, seed):
             wrong += 1
             print(f"{evening.scoring:3} {evening.name}: DIFFERS: {difference}")
         sys.stdout.flush()
+    for scoring in ["MP", "IMP"]:
+        try:
+            compare_sections(club, jar, folder, deals, hands, scoring)
+        except Differs as difference:
+            wrong += 1
+            print(f"{scoring:3} {SECTIONS} sections: DIFFERS: {difference}")
     print(f"{wrong} evenings differ without a reason" if wrong else "no difference that is not explained")
     return 1 if wrong else 0
 

@@ -26,9 +26,15 @@ def contract(game):
     return "P" if game["Contract"] == "Pass" else game["Contract"]
 
 
-def board_lines(evening, games):
+def game_lines(games, first=0):
+    """A line for each game; the numbers of its pairs follow that first one."""
     for game in games:
-        yield [game["Board"], evenings.pair_of(game["North"]), evenings.pair_of(game["East"]), contract(game), game["Declarer"], game["Result"]]
+        pairs = [first + evenings.pair_of(game[seat]) for seat in ("North", "East")]
+        yield [game["Board"], *pairs, contract(game), game["Declarer"], game["Result"]]
+
+
+def board_lines(evening, games):
+    yield from game_lines(games)
     for row in evening.live():
         for index in range(1, evening.boards + 1):
             ruling = evening.rulings.get((row[0], row[1], index), "").split()
@@ -40,11 +46,11 @@ def board_lines(evening, games):
                 yield [board, row[2], row[3], *ruling[1:]]
 
 
-def scored(jar, folder, evening, games):
+def scored(jar, folder, evening, lines):
     """Its hands, and of each pair the points and the percentage as it writes them."""
     boards, names = os.path.join(folder, "boards.csv"), os.path.join(folder, "names.csv")
     with open(boards, "w", encoding="ascii", newline="") as file:
-        csv.writer(file, lineterminator="\n").writerows(sorted(board_lines(evening, games), key=lambda line: int(line[0])))
+        csv.writer(file, lineterminator="\n").writerows(sorted(lines, key=lambda line: int(line[0])))
     with open(names, "w", encoding="ascii", newline="") as file:
         csv.writer(file, lineterminator="\n").writerows([pair, evenings.name(pair, 0), evenings.name(pair, 1)] for pair in range(1, evening.pairs + 1))
     # Whole sets can be verified where no play is missing.

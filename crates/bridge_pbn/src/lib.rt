@@ -7,7 +7,7 @@
 
 mod auction_section;
 mod game;
-mod names;
+pub mod names;
 mod play_section;
 mod tags;
 mod text;

@@ -26,7 +26,7 @@ pub struct Comparison {
 }
 
 /// What a play is compared by, if it is not void.
-pub(crate) fn result_in(play: &TablePlay) -> Option<PlayResult>
+pub fn result_in(play: &TablePlay) -> Option<PlayResult>
     requires { HasTricksWithin play.now }
     ensures value { result ≡ result_in play.now }
     ensures range { IfSome result IsResult }

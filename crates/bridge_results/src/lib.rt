@@ -18,7 +18,7 @@ pub mod makeable;
 pub mod pages;
 pub mod play;
 pub mod results;
-mod session_plays;
+pub mod session_plays;
 pub mod sums;
 pub mod tables;
 pub mod traveller;

@@ -5,12 +5,12 @@ pub mod columns;
 mod diagram;
 mod event;
 pub(crate) mod frequencies;
-pub(crate) mod makeable;
-pub(crate) mod page;
+pub mod makeable;
+pub mod page;
 pub(crate) mod pair_card;
 pub(crate) mod par;
 pub(crate) mod ranking;
-mod sheets;
+pub mod sheets;
 pub(crate) mod shown;
 
 pub use page::{write_results, write_results_with};

@@ -102,7 +102,7 @@ fn plays_at(session: &Session, row: Row) -> ArrayVec<TablePlay, 3>
 }
 
 /// The plays of a session of which something came, by round, table and board.
-pub(crate) fn plays_of(session: &Session) -> ArrayVec<TablePlay, MOST_PLAYS>
+pub fn plays_of(session: &Session) -> ArrayVec<TablePlay, MOST_PLAYS>
     requires { IsSession session.now }
     ensures plays { result.items ≡ plays_of session.now }
     ensures tricks { All HasTricksWithin result.items }

@@ -1,7 +1,7 @@
 //! The plays and the rankings of a session as tables of comma-separated values (RFC 4180), for other programs.
-mod fields;
-mod plays;
-mod rankings;
+pub mod fields;
+pub mod plays;
+pub mod rankings;
 
 pub use plays::write_plays_table;
 pub use rankings::write_rankings_table;

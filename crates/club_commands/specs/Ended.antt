@@ -1,7 +1,11 @@
 -- How a command ends: what stands on its output then, and the line on standard error and the exit status that a fault has.
 use Rattle.std.specs.Prelude.{◌≡◌, ◌⊎◌, ◌++◌, ℕ, true, false, List, codes, Option, Some, None, Result, Err, IfErr, IsErrAnd}
 use Rattle.club_commands.specs.Basis.{Stream, Takes, TakesPrefix, Written, IsUntouched, Disk, Rose, StoreOn, decimal, StoreFault, TooSmall, DiskFault, NotFormatted, Damaged, EpochsSpent, NoMemory, ServeFault, Read, Write, RunFault, StreamFault, System, Config, Store}
-use Rattle.club_commands.specs.declared.fault.RunFault.TheVariants.{Evening, Makeable, Joining, Lost}
+use Rattle.club_commands.specs.declared.fault.RunFault.TheVariants.{Evening, Makeable, Joining, Lost, Section, Field}
+use Rattle.club_commands.specs.declared.fault.OtherSection.{OtherSection}
+use Rattle.event_ranking.specs.EventText.{section_text}
+use Rattle.event_ranking.specs.declared.field.Difference.{Difference}
+use Rattle.event_ranking.specs.declared.field.Difference.TheVariants as difference
 use Rattle.club_commands.specs.declared.fault.LostDisk.{LostDisk}
 use Rattle.club_commands.specs.declared.fault.LostDisk.TheVariants as lost
 use Rattle.bridge_movement.specs.declared.row.Row.{Row}
@@ -74,6 +78,22 @@ abbrev pub lost_line : LostDisk → List ℕ
 lost_line lost.Disk = codes "disk lost\n"
 lost_line lost.Copy = codes "copy lost\n"
 
+-- what stands before that which is said of a section
+abbrev pub section_words : ℕ → List ℕ
+section_words section = (codes "section " ++ section_text section) ++ codes ": "
+
+-- in what a section differs from an earlier one
+abbrev pub difference_words : Difference → List ℕ
+difference_words difference.Scoring = codes "other scoring"
+difference_words difference.Boards = codes "other boards a set"
+difference_words difference.Sets = codes "other sets"
+difference_words (difference.Deal board) = codes "other deal of board " ++ decimal board
+
+-- the line where a section is not of one field with an earlier one
+abbrev pub other_section_line : OtherSection → List ℕ
+other_section_line other =
+    (((section_words other.section ++ difference_words other.difference) ++ codes " than ") ++ section_text other.earlier) ++ codes "\n"
+
 -- the line on standard error that names a fault; what the system does not give counts as what cannot be read
 abbrev pub fault_line : RunFault → List ℕ
 fault_line (StreamFault fault) = stream_line fault
@@ -84,6 +104,8 @@ fault_line (Makeable fault) = makeable_line fault
 fault_line (Store fault) = store_line fault
 fault_line (Joining fault) = join_line fault
 fault_line (Lost disk) = lost_line disk
+fault_line (Section disk) = section_words disk.section ++ store_line disk.fault
+fault_line (Field other) = other_section_line other
 
 -- the exit status where a disk is refused or has failed: 4 where it holds no session, and 3 otherwise
 abbrev pub store_status : StoreFault → ℕ
@@ -101,4 +123,5 @@ join_status _ = 3
 abbrev pub fault_status : RunFault → ℕ
 fault_status (Store fault) = store_status fault
 fault_status (Joining fault) = join_status fault
+fault_status (Section disk) = store_status disk.fault
 fault_status _ = 3

@@ -8,6 +8,7 @@ pub mod Listed
 pub mod MakeableDeals
 pub mod Results
 pub mod Exports
+pub mod Events
 pub mod Checked
 pub mod CheckedTwo
 pub mod Serving

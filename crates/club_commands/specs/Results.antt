@@ -49,8 +49,8 @@ abbrev pub IsToldText : Told → SessionValue → List ℕ → Type 0
 IsToldText Ranking s text = IsRankingText s text
 IsToldText Games s text = text ≡ session_text s
 
--- a text of a session's results is written
-abbrev pub Tells : (SessionValue → List ℕ → Type 0) → SessionValue → Stream → Ended → Type 0
+-- a text of the results of a session, or of several, is written
+abbrev pub Tells : {S : Type 0} → (S → List ℕ → Type 0) → S → Stream → Ended → Type 0
 Tells IsText s output ended = (text : List ℕ) × IsText s text × Writes output text ended
 
 -- what a page of that format is to have of plays: the cards and what they cost stand in HTML alone

@@ -1,12 +1,12 @@
 -- What stands on the program's streams once a command was done, and at a fault.
-use Rattle.std.specs.Prelude.{◌≡◌, ◌⊎◌, ◌++◌, [], ℕ, List, map, codes, MatchResult, Option, Some, None}
+use Rattle.std.specs.Prelude.{◌≡◌, ◌⊎◌, ◌++◌, [], ℕ, List, length, map, codes, MatchResult, Option, Some, None}
 use Rattle.club_commands.specs.Basis.{Bor, Stream, TakesPrefix, IsUntouched, ServeFault, StreamFault, NoMemory, Ranking, Games}
 use Rattle.bridge_cards.specs.Board.{dealer_of}
 use Rattle.auction_command.specs.Heard.{AnswersAll, StopsAt}
 use Rattle.command_line.specs.Words.{AsksCommand, AreRefused}
 use Rattle.command_line.specs.declared.command.WebWords.{WebWords}
 use Rattle.command_line.specs.declared.command.Command.{Command}
-use Rattle.command_line.specs.declared.command.Command.TheVariants.{Auction, Format, Script, Correct, Serve, Web, Rank, Pbn, Results, Export, Check, Plan, Draft, Slips, Evening, Makeable, Copy, Version}
+use Rattle.command_line.specs.declared.command.Command.TheVariants.{Auction, Format, Script, Correct, Serve, Web, Rank, Pbn, Results, Export, Event, Check, Plan, Draft, Slips, Evening, Makeable, Copy, Version}
 use Rattle.command_line.specs.declared.command.WordsFault.{WordsFault}
 use Rattle.command_line.specs.declared.command.WordsFault.TheVariants.{Usage, Memory}
 use Rattle.table_pages.specs.declared.page_texts.PageTexts.{PageTexts}
@@ -18,6 +18,7 @@ use Rattle.club_commands.specs.declared.work.Misfit.TheVariants.{Refused}
 use Rattle.club_commands.specs.declared.work.Work.TheVariants as work
 use Rattle.club_commands.specs.CheckedTwo.{RunsCheck}
 use Rattle.club_commands.specs.Evening.{HasEvening}
+use Rattle.club_commands.specs.Events.{HasEvent}
 use Rattle.club_commands.specs.Evenings.{HasDrafted, HasPlanned, HasSlips}
 use Rattle.club_commands.specs.Listed.{WithList}
 use Rattle.club_commands.specs.MakeableDeals.{HasMade}
@@ -56,6 +57,7 @@ Runs texts (Rank disk) input output ended = HasWorked input output ended (work.T
 Runs texts (Pbn disk) input output ended = HasWorked input output ended (work.Tell Games)
 Runs texts (Results disk page names) input output ended = WithList (HasListed (listed.Results page)) names input output ended
 Runs texts (Export disk asked) input output ended = HasWorked input output ended (work.Export asked)
+Runs texts (Event disks asked) input output ended = HasEvent asked (length disks.items) output ended × IsUntouched input
 Runs texts (Check disk copy) input output ended = RunsCheck copy input output ended
 Runs texts (Plan config names) input output ended = HasPlanned names output ended × IsUntouched input
 Runs texts (Draft names wishes) input output ended = HasDrafted wishes output ended × IsUntouched input

@@ -1,8 +1,6 @@
 //! The command `copy`: a second disk for the session on a disk.
-ghost use Rattle.std.specs.Prelude.{◌≡◌, IfErr, IfOk};
+ghost use Rattle.std.specs.Prelude.{IfErr, IfOk};
 ghost use Rattle.line_text.specs.Streams.{stream};
-ghost use Rattle.session_store.specs.declared.fault.StoreFault.{StoreFault as StoreFaultType};
-ghost use Rattle.club_commands.specs.declared.fault.RunFault.TheVariants.{Store};
 ghost use Rattle.club_commands.specs.Works.{HasCopied, IsRead, IsUnread};
 
 use crate::fault::RunFault;
@@ -17,16 +15,13 @@ use std::alloc::Global;
 use std::io::{Read, Write};
 
 /// The session that a disk holds, if there is one, read of it.
-fn session_on(alloc: Global, found: Result<ClubDisk, DiskFault>) -> Result<Session, RunFault>
+pub fn session_on(alloc: Global, found: Result<ClubDisk, DiskFault>) -> Result<Session, StoreFault>
     ensures read { IfOk result IsRead }
-    ensures fault { IfErr result (λ fault. (cause : StoreFaultType) × IsUnread cause × (fault ≡ Store cause)) }
+    ensures fault { IfErr result IsUnread }
 {
-    let Ok(mut disk) = found else {
-        return Err(RunFault::Store(StoreFault::Disk));
-    };
-    match read_disk(alloc, &mut disk) {
-        Ok(session) => Ok(session),
-        Err(fault) => Err(RunFault::Store(fault)),
+    match found {
+        Ok(mut disk) => read_disk(alloc, &mut disk),
+        Err(_) => Err(StoreFault::Disk),
     }
 }
 
@@ -43,6 +38,8 @@ pub fn run_copy<S: Machine, R: Read, W: Write>(
     ensures { HasCopied (stream R.remaining input.old input.new) (stream W.contents output.old output.new) result }
 {
     let lock = lock_for(rt, alloc, disk, Access::Read);
-    let session = session_on(alloc, locked_disk(rt, disk, Access::Read, &lock))?;
-    run_over(rt, alloc, copy, &Work::Format(&session), input, output)
+    match session_on(alloc, locked_disk(rt, disk, Access::Read, &lock)) {
+        Ok(session) => run_over(rt, alloc, copy, &Work::Format(&session), input, output),
+        Err(fault) => Err(RunFault::Store(fault)),
+    }
 }

@@ -1,6 +1,7 @@
 //! Why a command stops.
 use bridge_config::ConfigFault;
 use evening_commands::{EveningFault, NoRead};
+use event_ranking::Difference;
 use makeable_deals::MakeableFault;
 use session_pair::JoinFault;
 use session_store::StoreFault;
@@ -28,6 +29,26 @@ pub enum LostDisk {
     Copy,
 }
 
+/// A section that is not of one field with an earlier one. Sections are numbered from 1, as their disks are given.
+#[derive(Clone, Copy, Debug, PartialEq, Eq)]
+pub struct OtherSection {
+    /// Its number.
+    pub section: u8,
+    /// The number of the earlier one.
+    pub earlier: u8,
+    /// In what they differ.
+    pub difference: Difference,
+}
+
+/// The disk of a section that gives no session.
+#[derive(Clone, Copy, Debug, PartialEq, Eq)]
+pub struct SectionDisk {
+    /// The section's number, from 1.
+    pub section: u8,
+    /// Why.
+    pub fault: StoreFault,
+}
+
 /// Why a command stopped.
 #[derive(Clone, Copy, Debug, PartialEq, Eq)]
 pub enum RunFault {
@@ -47,6 +68,10 @@ pub enum RunFault {
     Joining(JoinFault),
     /// One of two disks was lost, and the session went on in the other.
     Lost(LostDisk),
+    /// The disk of a section is refused or has failed.
+    Section(SectionDisk),
+    /// The sessions on several disks are not one field.
+    Field(OtherSection),
 }
 
 impl From<ServeFault> for RunFault {

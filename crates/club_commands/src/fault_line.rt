@@ -1,10 +1,12 @@
 //! The line of standard error and the exit status that a fault has.
-ghost use Rattle.std.specs.Prelude.{◌≡◌, Some};
-ghost use Rattle.club_commands.specs.Ended.{stream_line, store_line, copy_line, other_plays_line, join_line, lost_line, fault_line, fault_status, store_status, join_status};
+ghost use Rattle.std.specs.Prelude.{◌≡◌, ◌≤◌, ◌++◌, length, Some};
+ghost use Rattle.club_commands.specs.Ended.{stream_line, store_line, copy_line, other_plays_line, join_line, lost_line, section_words, difference_words, other_section_line, fault_line, fault_status, store_status, join_status};
 
-use crate::fault::{LostDisk, RunFault};
+use crate::fault::{LostDisk, OtherSection, RunFault};
+use bridge_cards::BoardNumber;
 use bridge_movement::Row;
 use evening_commands::{FaultLine, config_line, evening_line, line_of};
+use event_ranking::{Difference, section_letters};
 use itoa::Buffer;
 use makeable_deals::makeable_line;
 use session_pair::JoinFault;
@@ -33,6 +35,8 @@ pub fn fault_status(fault: RunFault) -> u8
         RunFault::Store(fault) => store_status(fault),
         RunFault::Joining(fault) => join_status(fault),
         RunFault::Lost(_) => FAULT,
+        RunFault::Section(disk) => store_status(disk.fault),
+        RunFault::Field(_) => FAULT,
     }
 }
 
@@ -69,6 +73,8 @@ pub fn fault_line(fault: RunFault) -> FaultLine
         RunFault::Store(fault) => store_line(fault),
         RunFault::Joining(fault) => join_line(fault),
         RunFault::Lost(lost) => lost_line(lost),
+        RunFault::Section(disk) => section_line(disk.section, disk.fault),
+        RunFault::Field(other) => other_section_line(other),
     }
 }
 
@@ -142,7 +148,8 @@ fn stream_line(fault: ServeFault) -> FaultLine
 }
 
 fn store_line(fault: StoreFault) -> FaultLine
-    ensures { result.bytes ≡ store_line fault }
+    ensures text { result.bytes ≡ store_line fault }
+    ensures short { length result.bytes ≤ 36 }
 {
     match fault {
         StoreFault::TooSmall => line_of("disk too small\n"),
@@ -155,11 +162,69 @@ fn store_line(fault: StoreFault) -> FaultLine
 }
 
 fn damaged_line(sector: u32) -> FaultLine
-    ensures { result.bytes ≡ store_line (StoreFault.Damaged sector) }
+    ensures text { result.bytes ≡ store_line (StoreFault.Damaged sector) }
+    ensures short { length result.bytes ≤ 36 }
 {
     let mut line = FaultLine::new();
     line.push_str("damaged sector ");
     line.push_str(Buffer::new().format(sector));
+    line.push_str("\n");
+    line
+}
+
+/// What stands before that which is said of a section.
+fn section_words(section: u8) -> FaultLine
+    ensures text { result.bytes ≡ section_words section }
+    ensures short { length result.bytes ≤ 12 }
+{
+    let mut line = FaultLine::new();
+    line.push_str("section ");
+    line.push_str(section_letters(section).as_str());
+    line.push_str(": ");
+    line
+}
+
+/// The line of the disk of a section.
+fn section_line(section: u8, fault: StoreFault) -> FaultLine
+    ensures { result.bytes ≡ section_words section ++ store_line fault }
+{
+    let mut line = section_words(section);
+    line.push_str(store_line(fault).as_str());
+    line
+}
+
+/// In what a section differs from an earlier one.
+fn difference_words(difference: Difference) -> FaultLine
+    ensures text { result.bytes ≡ difference_words difference }
+    ensures short { length result.bytes ≤ 24 }
+{
+    match difference {
+        Difference::Scoring => line_of("other scoring"),
+        Difference::Boards => line_of("other boards a set"),
+        Difference::Sets => line_of("other sets"),
+        Difference::Deal(board) => deal_words(board),
+    }
+}
+
+/// The same where they have other deals of a board.
+fn deal_words(board: BoardNumber) -> FaultLine
+    ensures text { result.bytes ≡ difference_words (Difference.Deal board) }
+    ensures short { length result.bytes ≤ 24 }
+{
+    let mut line = FaultLine::new();
+    line.push_str("other deal of board ");
+    line.push_str(Buffer::new().format(board.number()));
+    line
+}
+
+/// The line where a section is not of one field with an earlier one.
+fn other_section_line(other: OtherSection) -> FaultLine
+    ensures { result.bytes ≡ other_section_line other }
+{
+    let mut line = section_words(other.section);
+    line.push_str(difference_words(other.difference).as_str());
+    line.push_str(" than ");
+    line.push_str(section_letters(other.earlier).as_str());
     line.push_str("\n");
     line
 }

@@ -16,6 +16,8 @@ mod counts;
 mod evening;
 mod evening_files;
 mod evenings;
+mod event_texts;
+mod events;
 mod exports;
 mod fault;
 mod fault_line;
@@ -45,7 +47,7 @@ mod work;
 
 pub use check::check_disk;
 pub use config_file::read_session;
-pub use fault::{LostDisk, RunFault, SystemFault};
+pub use fault::{LostDisk, OtherSection, RunFault, SectionDisk, SystemFault};
 pub use machine::{Alarm, Host, Machine};
 pub use pair_web::show_pair;
 pub use planning::plan_evening;

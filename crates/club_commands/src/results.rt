@@ -72,7 +72,7 @@ pub fn write_games<W: Write>(session: &Session, output: &mut W) -> Result<(), Ru
 }
 
 /// The format that `--html` asks for, and that without it.
-fn page_format(html: bool) -> Format
+pub fn page_format(html: bool) -> Format
     ensures { result ≡ page_format html }
 {
     if html { Format::Html } else { Format::Plain }

@@ -9,6 +9,7 @@ use crate::check_two::run_check;
 use crate::copying::run_copy;
 use crate::evening::run_evening;
 use crate::evenings::{make_draft, make_plan, make_slips};
+use crate::events::run_event;
 use crate::fault::RunFault;
 use crate::fault_line::{fault_line, fault_status};
 use crate::formatting::run_format;
@@ -128,6 +129,7 @@ fn do_command<S: Machine, R: Read, W: Write>(
             rt, alloc, disk, page, names, input, output,
         ),
         Command::Export { disk, asked } => export(rt, alloc, disk, asked, input, output),
+        Command::Event { ref disks, asked } => run_event(rt, alloc, disks, asked, output),
         Command::Check { disk, copy } => run_check(rt, alloc, disk, copy, input, output),
         Command::Plan { config, names } => make_plan(rt, config, names, output),
         Command::Draft { names, wishes } => make_draft(rt, names, &wishes, output),
@@ -179,6 +181,8 @@ fn fails<E: Write>(fault: RunFault, errors: &mut E) -> u8
     ensures status { result ≡ fault_status fault }
     ensures line { TakesPrefix (stream E.contents errors.old errors.new) (fault_line fault) }
 {
-    let _ = write_text(errors, fault_line(fault).as_str().as_bytes());
-    fault_status(fault)
+    let status = fault_status(fault);
+    let line = fault_line(fault);
+    let _ = write_text(errors, line.as_str().as_bytes());
+    status
 }

@@ -1,9 +1,10 @@
 -- The command line, in the words of clap.
-use Rattle.std.specs.Prelude.{◌≡◌, ◌≢◌, ◌⊎◌, ◌||◌, if◌then◌else◌, ℕ, Bool, List, [], ◌∷◌, Option, None, Some, Ok, IfOk, pos, true, false, codes, option_map}
+use Rattle.std.specs.Prelude.{◌≡◌, ◌≢◌, ◌<◌, ◌⊎◌, map, length, ◌||◌, if◌then◌else◌, ℕ, Bool, List, [], ◌∷◌, Option, None, Some, Ok, IfOk, pos, true, false, codes, option_map}
 use Rattle.std.specs.Borrow.{Bor}
 use Rattle.std.specs.Str.Parse.{ParsesUnsigned}
 use Rattle.std.specs.declared.num.ParseIntError.{ParseIntError}
-use Rattle.clap.specs.Words.{App, Row, Rule, Text, app_of, rule_of, new_app, new_rule, with_rule, with_subcommand, subcommand_of, one_of, first_of, fault_of}
+use Rattle.arrayvec.specs.ArrayVec.{ArrayVec}
+use Rattle.clap.specs.Words.{App, Row, Rule, Text, app_of, rule_of, new_app, new_rule, with_rule, with_subcommand, subcommand_of, one_of, first_of, all_of, fault_of}
 use Rattle.clap.specs.declared.builder.arg.Arg.{Arg}
 use Rattle.clap.specs.declared.builder.command.Command.{Command as clap_command}
 use Rattle.clap.specs.declared.builder.command.Command.TheViews.{out-Command as fields_of}
@@ -11,7 +12,10 @@ use Rattle.clap.specs.declared.builder.action.ArgAction.TheVariants.{SetTrue}
 use Rattle.clap.specs.declared.builder.value_parser.ValueParser.TheVariants as parser
 use Rattle.command_line.specs.declared.declared.Declared.{Declared}
 use Rattle.command_line.specs.declared.command.Command.{Command}
-use Rattle.command_line.specs.declared.command.Command.TheVariants.{Auction, Format, Script, Correct, Serve, Web, Rank, Pbn, Results, Check, Plan, Draft, Slips, Evening, Makeable, Export, Copy, Version}
+use Rattle.command_line.specs.declared.command.Command.TheVariants.{Auction, Format, Script, Correct, Serve, Web, Rank, Pbn, Results, Check, Plan, Draft, Slips, Evening, Makeable, Export, Event, Copy, Version}
+use Rattle.command_line.specs.declared.command.EventAsked.{EventAsked}
+use Rattle.command_line.specs.declared.command.EventAsked.TheVariants.{Page, Export as ForPrograms}
+use Rattle.command_line.specs.declared.command.PageAsked.{PageAsked}
 use Rattle.command_line.specs.declared.command.WebHost.{WebHost}
 use Rattle.command_line.specs.declared.command.WebWords.{WebWords}
 use Rattle.command_line.specs.declared.command.DraftWords.{DraftWords}
@@ -22,6 +26,10 @@ use Rattle.command_line.specs.declared.command.ExportAsked.TheVariants.{Plays, R
 use Rattle.command_line.specs.declared.export_read.ExportFlags.{ExportFlags}
 use Rattle.command_line.specs.declared.command.WordsFault.{WordsFault}
 use Rattle.command_line.specs.declared.command.WordsFault.TheVariants.{Usage, Memory}
+
+-- the names of the files of disks
+abbrev pub DiskNames : Type 0
+DiskNames = ArrayVec (Bor Text)
 
 -- an argument of that name, which is required
 abbrev pub required_rule : Text → Rule
@@ -71,6 +79,10 @@ auction_app = with_rule (new_app (codes "auction")) board_rule
 -- the argument DISK, which is required
 abbrev pub disk_rule : Rule
 disk_rule = required_rule (codes "DISK")
+
+-- the argument DISK, which is required: one of them or up to 40
+abbrev pub disks_rule : Rule
+disks_rule = record disk_rule { range = Some (record { start_inclusive = 1; end_inclusive = 40 }) }
 
 -- the argument CONFIG, which is required
 abbrev pub config_rule : Rule
@@ -149,9 +161,13 @@ html_rule = flag_rule (codes "html")
 abbrev pub no_analysis_rule : Rule
 no_analysis_rule = flag_rule (codes "no-analysis")
 
--- the command `results DISK`, with those flags and that option or without
+-- a command with the argument DISK, once or several times
+abbrev pub disks_app : Text → App
+disks_app name = with_rule (new_app name) disks_rule
+
+-- the command `results DISK..`, with those flags and that option or without
 abbrev pub results_app : App
-results_app = with_rule (with_rule (with_rule (disk_app (codes "results")) html_rule) no_analysis_rule) names_option_rule
+results_app = with_rule (with_rule (with_rule (disks_app (codes "results")) html_rule) no_analysis_rule) names_option_rule
 
 -- the argument DISK2, which may be left out
 abbrev pub other_disk_rule : Rule
@@ -247,10 +263,10 @@ json_rule = flag_rule (codes "json")
 abbrev pub csv_rule : Rule
 csv_rule = flag_rule (codes "csv")
 
--- the command `export DISK`, with those flags, `--pbn` and `--no-analysis` or without
+-- the command `export DISK..`, with those flags, `--pbn` and `--no-analysis` or without
 abbrev pub export_app : App
 export_app =
-    with_rules (disk_app (codes "export")) (csv_rule ∷ rankings_rule ∷ json_rule ∷ pbn_rule ∷ no_analysis_rule ∷ [])
+    with_rules (disks_app (codes "export")) (csv_rule ∷ rankings_rule ∷ json_rule ∷ pbn_rule ∷ no_analysis_rule ∷ [])
 
 -- the argument DISK2
 abbrev pub second_disk_rule : Rule
@@ -295,6 +311,14 @@ HasNumber bits rows id number =
 -- the argument of that name is this text
 abbrev pub HasText : List Row → Text → Text → Type 0
 HasText rows id text = first_of id rows ≡ Some text
+
+-- the argument DISK is these texts, in their order
+abbrev pub HasDisks : List Row → List Text → Type 0
+HasDisks rows disks = all_of (codes "DISK") rows ≡ Some disks
+
+-- it is given several times
+abbrev pub HasSeveral : List Row → DiskNames → Type 0
+HasSeveral rows disks = HasDisks rows (map (λ disk. disk.now) disks.items) × (1 < length disks.items)
 
 -- the flag of that name is given, or it is not
 abbrev pub HasFlag : List Row → Text → Bool → Type 0
@@ -361,6 +385,19 @@ HasExport rows asked = (flags : ExportFlags) × HasFlags rows flags × (export_a
 abbrev pub IsExcluded : List Row → Type 0
 IsExcluded rows = (flags : ExportFlags) × HasFlags rows flags × (export_asked flags ≡ None)
 
+-- the flags of `results` that are given
+abbrev pub HasPage : List Row → PageAsked → Type 0
+HasPage rows page = HasFlag rows (codes "html") page.html × HasFlag rows (codes "no-analysis") page.no_analysis
+
+-- a list of names is given, and several disks
+abbrev pub IsListOfSeveral : List Row → Type 0
+IsListOfSeveral rows = (disks : DiskNames) × (names : Bor Text) × HasSeveral rows disks × HasOption rows (codes "names") (Some names)
+
+-- what is asked for of several disks: a page, without a list of names; or what the flags of `export` ask for
+abbrev pub HasEvent : List Row → EventAsked → Type 0
+HasEvent rows (Page page) = HasPage rows page × HasOption rows (codes "names") None
+HasEvent rows (ForPrograms asked) = HasExport rows asked
+
 -- the arguments are those of a command
 abbrev pub HasWords : List Row → Command → Type 0
 HasWords rows (Auction board) = HasNumber 8 rows (codes "BOARD") board
@@ -372,17 +409,22 @@ HasWords rows (Serve disk port count) = HasText rows (codes "DISK") disk.now
 HasWords rows (Web disk pages) = HasText rows (codes "DISK") disk.now × HasPages rows pages
 HasWords rows (Rank disk) = HasText rows (codes "DISK") disk.now
 HasWords rows (Pbn disk) = HasText rows (codes "DISK") disk.now
-HasWords rows (Results disk page names) = HasText rows (codes "DISK") disk.now × HasFlag rows (codes "html") page.html
-    × HasFlag rows (codes "no-analysis") page.no_analysis × HasOption rows (codes "names") names
+HasWords rows (Results disk page names) = HasDisks rows (disk.now ∷ []) × HasPage rows page × HasOption rows (codes "names") names
 HasWords rows (Check disk copy) = HasText rows (codes "DISK") disk.now × HasOption rows (codes "DISK2") copy
 HasWords rows (Plan config names) = HasText rows (codes "CONFIG") config.now × HasOption rows (codes "names") names
 HasWords rows (Draft names wishes) = HasText rows (codes "NAMES") names.now × HasWishes rows wishes
 HasWords rows (Slips config slips) = HasText rows (codes "CONFIG") config.now × HasSlips rows slips
 HasWords rows (Evening words) = HasEvening rows words
 HasWords rows (Makeable file pbn) = HasText rows (codes "FILE") file.now × HasFlag rows (codes "pbn") pbn
-HasWords rows (Export disk asked) = HasText rows (codes "DISK") disk.now × HasExport rows asked
+HasWords rows (Export disk asked) = HasDisks rows (disk.now ∷ []) × HasExport rows asked
+HasWords rows (Event disks asked) = HasSeveral rows disks × HasEvent rows asked
 HasWords rows (Copy disk copy) = HasText rows (codes "DISK") disk.now × HasText rows (codes "DISK2") copy.now
 HasWords rows Version = Unit {0}
+
+-- the command by whose name it is asked for
+abbrev pub event_name : EventAsked → Text
+event_name (Page page) = codes "results"
+event_name (ForPrograms asked) = codes "export"
 
 -- the name of a command
 abbrev pub name_of : Command → Text
@@ -402,6 +444,7 @@ name_of (Slips config slips) = codes "slips"
 name_of (Evening words) = codes "evening"
 name_of (Makeable file pbn) = codes "makeable"
 name_of (Export disk asked) = codes "export"
+name_of (Event disks asked) = event_name asked
 name_of (Copy disk copy) = codes "copy"
 name_of Version = codes "version"
 
@@ -418,17 +461,17 @@ IsCommand (Some named) command = IsNamed named.0 named.1 command
 abbrev pub AsksCommand : List Text → Command → Type 0
 AsksCommand texts words = (fault_of club_app texts ≡ []) × IsCommand (subcommand_of club_app texts) words
 
--- the command is `export`, and its flags exclude each other
+-- the command is `export`, and its flags exclude each other; or `results`, of several disks with a list of names
 abbrev pub HasConflict : Option (Text × List Row) → Type 0
 HasConflict None = ⊥
-HasConflict (Some named) = (named.0 ≡ codes "export") × IsExcluded named.1
+HasConflict (Some named) = ((named.0 ≡ codes "export") × IsExcluded named.1) ⊎ ((named.0 ≡ codes "results") × IsListOfSeveral named.1)
 
--- why a subcommand and its arguments are no command: flags exclude each other, or memory was refused
+-- why a subcommand and its arguments are no command: they exclude each other, or memory was refused
 abbrev pub IsUnasked : Option (Text × List Row) → WordsFault → Type 0
 IsUnasked named (Usage error) = HasConflict named
 IsUnasked named Memory = Unit {0}
 
--- clap finds a fault in the texts, or flags of `export` exclude each other
+-- clap finds a fault in the texts, or words of `export` or `results` exclude each other
 abbrev pub AreRefused : List Text → Type 0
 AreRefused texts = (fault_of club_app texts ≢ []) ⊎ HasConflict (subcommand_of club_app texts)
 

@@ -1,6 +1,7 @@
 //! The arguments of the commands, as they are declared to clap.
-ghost use Rattle.command_line.specs.Words.{IsRuled, required_rule, number_rule, flag_rule, option_rule, default_rule, board_rule, disk_rule, other_disk_rule, second_disk_rule, config_rule, file_rule, port_rule, count_rule, minutes_rule, address_rule, name_rule, open_boards_rule, copy_rule, html_rule, no_analysis_rule, csv_rule, rankings_rule, json_rule, pbn_rule};
+ghost use Rattle.command_line.specs.Words.{IsRuled, required_rule, number_rule, flag_rule, option_rule, default_rule, board_rule, disk_rule, disks_rule, other_disk_rule, second_disk_rule, config_rule, file_rule, port_rule, count_rule, minutes_rule, address_rule, name_rule, open_boards_rule, copy_rule, html_rule, no_analysis_rule, csv_rule, rankings_rule, json_rule, pbn_rule};
 
+use crate::command::MOST_DISKS;
 use clap::builder::ValueParser;
 use clap::{Arg, ArgAction};
 use std::alloc::Global;
@@ -60,6 +61,18 @@ pub fn disk_argument<'a>(alloc: Global) -> Arg<'a>
     required(alloc, "DISK", "The file that is the disk")
 }
 
+/// The argument DISK, once or for up to 40 disks.
+pub fn disks_argument<'a>(alloc: Global) -> Arg<'a>
+    ensures { IsRuled disks_rule result }
+{
+    required(
+        alloc,
+        "DISK",
+        "The file that is the disk; several are the sections of one event",
+    )
+    .num_args(1..=MOST_DISKS)
+}
+
 /// The argument DISK2, which may be left out.
 pub fn other_disk_argument<'a>(alloc: Global) -> Arg<'a>
     ensures { IsRuled other_disk_rule result }
@@ -113,7 +126,7 @@ pub fn csv_argument<'a>(alloc: Global) -> Arg<'a>
     flag(
         alloc,
         "csv",
-        "The plays as comma-separated values, as without a word",
+        "The plays, or the rankings, as comma-separated values, as without a word",
     )
 }
 

@@ -1,5 +1,12 @@
 //! What the words after the program's name ask for.
+use arrayvec::ArrayVec;
 use bridge_cards::BoardNumber;
+
+/// The most disks that a command reads as sections of one event.
+pub const MOST_DISKS: usize = 40;
+
+/// The names of the files of several disks, in the order in which they are given.
+pub type DiskNames<'a> = ArrayVec<&'a str, MOST_DISKS>;
 
 /// What page of results is asked for.
 #[derive(Clone, Copy)]
@@ -11,7 +18,7 @@ pub struct PageAsked {
 }
 
 /// A command with its words.
-#[derive(Clone, Copy)]
+#[derive(Drop)]
 pub enum Command<'a> {
     /// `auction BOARD`: one board's auction, from standard input.
     Auction(BoardNumber),
@@ -119,6 +126,14 @@ pub enum Command<'a> {
         /// What is printed.
         asked: ExportAsked,
     },
+    /// `results DISK DISK ..` without a list of names, or `export DISK DISK ..`: the same of the sessions that two to 40 disks hold, as the
+    /// sections of one event.
+    Event {
+        /// The names of the disks' files, in the order of the sections.
+        disks: DiskNames<'a>,
+        /// What is printed.
+        asked: EventAsked,
+    },
     /// `copy DISK DISK2`: a new disk for the session that a disk holds.
     Copy {
         /// DISK, the name of the disk's file.
@@ -144,6 +159,15 @@ pub enum ExportAsked {
         /// Whether `--no-analysis` is among the words: they have no word of what could be made on a board.
         no_analysis: bool,
     },
+}
+
+/// What is printed of several sections.
+#[derive(Clone, Copy)]
+pub enum EventAsked {
+    /// Their results as a page.
+    Page(PageAsked),
+    /// Their results for other programs.
+    Export(ExportAsked),
 }
 
 /// Where the pages of `web` are shown, by which name, and how they begin.

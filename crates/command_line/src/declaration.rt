@@ -5,9 +5,9 @@ ghost use Rattle.command_line.specs.Words.{IsDeclared, auction_app, format_app, 
 
 use crate::arguments::{
     address_argument, board_argument, config_argument, copy_argument, count_argument, csv_argument,
-    disk_argument, file_argument, games_argument, html_argument, json_argument, minutes_argument,
-    name_argument, no_analysis_argument, open_boards_argument, other_disk_argument, pbn_argument,
-    port_argument, rankings_argument, second_disk_argument,
+    disk_argument, disks_argument, file_argument, games_argument, html_argument, json_argument,
+    minutes_argument, name_argument, no_analysis_argument, open_boards_argument,
+    other_disk_argument, pbn_argument, port_argument, rankings_argument, second_disk_argument,
 };
 use crate::declared::Declared;
 use crate::evening_arguments::names_option;
@@ -172,16 +172,16 @@ fn pbn_command<'a>(alloc: Global) -> Declared<'a>
     .argument(disk_argument(alloc))
 }
 
-/// The command `results DISK`, with `--html` and `--no-analysis` or without, and with a list of names or none.
-fn results_command<'a>(alloc: Global) -> Declared<'a>
+/// The command `results DISK..`, with `--html` and `--no-analysis` or without, and with a list of names or none.
+pub fn results_command<'a>(alloc: Global) -> Declared<'a>
     ensures { IsDeclared results_app result }
 {
     Declared::new(
         alloc,
         "results",
-        "Prints the rankings, travellers and score cards of the session on a disk",
+        "Prints the rankings, travellers and score cards of the session on a disk; of several, as sections of one event",
     )
-    .argument(disk_argument(alloc))
+    .argument(disks_argument(alloc))
     .argument(html_argument(alloc))
     .argument(no_analysis_argument(alloc))
     .argument(names_option(alloc))
@@ -226,16 +226,16 @@ fn makeable_command<'a>(alloc: Global) -> Declared<'a>
     .argument(pbn_argument(alloc))
 }
 
-/// The command `export DISK`, with flags that say what is printed, or without.
+/// The command `export DISK..`, with flags that say what is printed, or without.
 pub fn export_command<'a>(alloc: Global) -> Declared<'a>
     ensures { IsDeclared export_app result }
 {
     Declared::new(
         alloc,
         "export",
-        "Prints the results of the session on a disk for other programs",
+        "Prints the results of the session on a disk for other programs; of several, as sections of one event",
     )
-    .argument(disk_argument(alloc))
+    .argument(disks_argument(alloc))
     .argument(csv_argument(alloc))
     .argument(rankings_argument(alloc))
     .argument(json_argument(alloc))

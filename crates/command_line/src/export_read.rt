@@ -1,14 +1,12 @@
 //! Reads the flags of `export`.
 ghost use Rattle.std.specs.Prelude.{◌≡◌, true, codes, IfSome};
-ghost use Rattle.clap.specs.Words.{rows_of, found_of, subcommand_rows_of};
-ghost use Rattle.command_line.specs.Words.{export_asked, HasFlags, IsNamed, IsExcluded, IsUnasked};
+ghost use Rattle.clap.specs.Words.{rows_of, found_of};
+ghost use Rattle.command_line.specs.Words.{export_asked, HasFlags, IsNamed, IsExcluded};
 
-use crate::command::{Command, ExportAsked, WordsFault};
-use crate::declaration::export_command;
+use crate::command::{Command, EventAsked, ExportAsked};
+use crate::disks::{are_several, disks_of, only};
 use crate::read::has_flag;
 use clap::ArgMatches;
-use clap::error::ErrorKind;
-use std::alloc::{AllocError, Global};
 
 /// Which flags of `export` are among the words.
 #[derive(Clone, Copy)]
@@ -53,46 +51,25 @@ fn export_asked(flags: ExportFlags) -> Option<ExportAsked>
     }
 }
 
-/// The command `export` with its disk, and what it is to print.
+/// The command `export` with its disk or its disks, and what it is to print.
 pub fn export_of<'a>(found: &ArgMatches<'a>) -> Option<Command<'a>>
     ensures { IfSome result (IsNamed (codes "export") (rows_of (found_of found.now))) }
 {
-    let disk = found.get_str("DISK")?;
+    let disks = disks_of(found)?;
     let asked = export_asked(flags_of(found))?;
-    Some(Command::Export { disk, asked })
+    match only(&disks) {
+        Some(disk) => Some(Command::Export { disk, asked }),
+        None if are_several(&disks) => Some(Command::Event {
+            disks,
+            asked: EventAsked::Export(asked),
+        }),
+        None => None,
+    }
 }
 
 /// Whether the flags exclude each other.
-fn is_excluded(found: &ArgMatches<'_>) -> bool
+pub fn is_excluded(found: &ArgMatches<'_>) -> bool
     ensures { result ≡ true → IsExcluded (rows_of (found_of found.now)) }
 {
     export_asked(flags_of(found)).is_none()
-}
-
-/// That flags of `export` exclude each other, as clap says it.
-fn conflict(alloc: Global) -> Result<clap::Error, AllocError> {
-    let command = export_command(alloc).command?;
-    let mut named = command.bin_name("bridge_club export")?;
-    named.error(
-        ErrorKind::ArgumentConflict,
-        "the arguments '--csv', '--json' and '--pbn' cannot be used together, nor '--rankings' with '--json' or '--pbn'",
-    )
-}
-
-/// The same, or that memory was refused.
-fn excluded(alloc: Global) -> WordsFault {
-    match conflict(alloc) {
-        Ok(error) => WordsFault::Usage(error),
-        Err(_) => WordsFault::Memory,
-    }
-}
-
-/// Why matches name no command: flags of `export` exclude each other, or memory was refused.
-pub fn unasked(alloc: Global, matches: &ArgMatches<'_>) -> WordsFault
-    ensures { IsUnasked (subcommand_rows_of matches.now) result }
-{
-    match matches.subcommand() {
-        Some(("export", found)) if is_excluded(found) => excluded(alloc),
-        _ => WordsFault::Memory,
-    }
 }

@@ -10,14 +10,17 @@ mod arguments;
 mod command;
 mod declaration;
 mod declared;
+mod disks;
 mod evening_arguments;
 mod evening_declaration;
 mod evening_read;
 mod export_read;
 mod read;
+mod results_read;
+mod unasked;
 
 pub use command::{
-    Command, DraftWords, EveningWords, ExportAsked, PageAsked, SlipWords, WebHost, WebWords,
-    WordsFault,
+    Command, DiskNames, DraftWords, EveningWords, EventAsked, ExportAsked, MOST_DISKS, PageAsked,
+    SlipWords, WebHost, WebWords, WordsFault,
 };
 pub use read::read_words;

@@ -3,10 +3,12 @@ ghost use Rattle.std.specs.Prelude.{IfOk, IfErr, IfSome, codes, map};
 ghost use Rattle.clap.specs.Words.{rows_of, found_of, subcommand_rows_of};
 ghost use Rattle.command_line.specs.Words.{HasNumber, HasFlag, HasOption, HasHost, HasPages, IsCommand, IsNamed, AsksCommand, IsRefusedBy};
 
-use crate::command::{Command, PageAsked, WebHost, WebWords, WordsFault};
+use crate::command::{Command, WebHost, WebWords, WordsFault};
 use crate::declaration::club_command;
 use crate::evening_read::{draft_of, evening_of, slips_of};
-use crate::export_read::{export_of, unasked};
+use crate::export_read::export_of;
+use crate::results_read::results_of;
+use crate::unasked::unasked;
 use bridge_cards::BoardNumber;
 use clap::ArgMatches;
 use clap::error::ErrorKind;
@@ -14,7 +16,7 @@ use std::alloc::Global;
 
 /// Reads a command from the words after the program's name.
 ///
-/// `Usage` where they are no command, where flags of `export` exclude each other, or where they call for help, and `Memory` where
+/// `Usage` where they are no command, where some of them exclude each other, or where they call for help, and `Memory` where
 /// memory is refused; no clause says that `Memory` comes only there.
 pub fn read_words<'a>(alloc: Global, words: &'a [&'a str]) -> Result<Command<'a>, WordsFault>
     ensures ok { IfOk result (AsksCommand (map (λ word. word.now) words.entry.now)) }
@@ -194,18 +196,6 @@ fn pbn_of<'a>(found: &ArgMatches<'a>) -> Option<Command<'a>>
 {
     let disk = found.get_str("DISK")?;
     Some(Command::Pbn { disk })
-}
-
-/// The command `results` with its disk, whether it asks for HTML and for no analysis, and its list of names.
-fn results_of<'a>(found: &ArgMatches<'a>) -> Option<Command<'a>>
-    ensures { IfSome result (IsNamed (codes "results") (rows_of (found_of found.now))) }
-{
-    let disk = found.get_str("DISK")?;
-    let html = has_flag(found, "html");
-    let no_analysis = has_flag(found, "no-analysis");
-    let names = option_of(found, "names");
-    let page = PageAsked { html, no_analysis };
-    Some(Command::Results { disk, page, names })
 }
 
 /// Whether a flag is given.

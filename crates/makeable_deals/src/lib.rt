@@ -20,7 +20,7 @@ pub mod progress;
 pub mod read;
 pub mod refused;
 pub mod solved;
-mod tags;
+pub mod tags;
 pub mod text;
 pub mod write;
 

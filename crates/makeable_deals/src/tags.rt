@@ -56,7 +56,7 @@ fn push_rows(text: &mut PageText, table: &TrickTable, seat: Seat)
 
 /// The table of the tricks of all declarers.
 #[tactic(auto, unfolding(crate::specs::Games::table_tag))]
-fn table_tag(table: &TrickTable) -> PageText
+pub fn table_tag(table: &TrickTable) -> PageText
     ensures tag { result.items ≡ table_tag table.now }
     ensures short { array_vec_len result ≤ 500 }
 {
@@ -74,7 +74,7 @@ fn table_tag(table: &TrickTable) -> PageText
 
 /// The tag of a par score.
 #[tactic(auto, unfolding(crate::specs::Games::score_tag))]
-fn score_tag(score: i32) -> PageText
+pub fn score_tag(score: i32) -> PageText
     ensures tag { result.items ≡ score_tag score }
     ensures short { array_vec_len result ≤ 60 }
 {

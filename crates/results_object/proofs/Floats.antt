@@ -32,11 +32,11 @@ use Rattle.results_object.specs.Plays.{gain_of, share_of, tricks_data, averages_
 use Rattle.results_object.specs.Object.{scoring_text, deal_data, board_data, total_data, names_data, ranked_data, field_data, event_data, results_data}
 
 -- the value is none
-abbrev IsPlain : Data → Type 0
+abbrev pub IsPlain : Data → Type 0
 IsPlain d = has_float d ≡ false
 
 -- neither of two is
-both : (a b : Bool) → a ≡ false → b ≡ false → (a || b) ≡ false
+pub both : (a b : Bool) → a ≡ false → b ≡ false → (a || b) ≡ false
 both a b first second = rw (first, second) refl
 
 -- nor one of a list
@@ -44,14 +44,14 @@ items_plain : {X : Type 0} (f : X → Data) → ((x : X) → IsPlain (f x)) → 
 items_plain f each [] = refl
 items_plain f each (x ∷ xs) = both _ _ (each x) (items_plain f each xs)
 
-list_plain : {X : Type 0} (f : X → Data) → ((x : X) → IsPlain (f x)) → (xs : List X) → IsPlain (list_data f xs)
+pub list_plain : {X : Type 0} (f : X → Data) → ((x : X) → IsPlain (f x)) → (xs : List X) → IsPlain (list_data f xs)
 list_plain f each xs = items_plain f each xs
 
-text_plain : (text : List ℕ) → IsPlain (text_data text)
+pub text_plain : (text : List ℕ) → IsPlain (text_data text)
 text_plain [] = refl
 text_plain (byte ∷ bytes) = refl
 
-number_plain : (value : Option ℤ) → IsPlain (number_data value)
+pub number_plain : (value : Option ℤ) → IsPlain (number_data value)
 number_plain None = refl
 number_plain (Some (pos n)) = refl
 number_plain (Some (negsuc n)) = refl
@@ -64,7 +64,7 @@ tricks_plain Voided = refl
 tricks_plain (Adjusted ns ew) = refl
 tricks_plain (Assigned contract tricks) = refl
 
-averages_plain : (outcome : Outcome) → IsPlain (averages_data outcome)
+pub averages_plain : (outcome : Outcome) → IsPlain (averages_data outcome)
 averages_plain Unfinished = refl
 averages_plain PassedOut = refl
 averages_plain (Played contract tricks) = refl
@@ -72,7 +72,7 @@ averages_plain Voided = refl
 averages_plain (Adjusted ns ew) = refl
 averages_plain (Assigned contract tricks) = refl
 
-result_plain : (play : TablePlay) → IsPlain (result_data play)
+pub result_plain : (play : TablePlay) → IsPlain (result_data play)
 result_plain play =
     both _ _ (text_plain (contract_cell play.outcome)) (both _ _ (text_plain (declarer_cell play.outcome))
     (both _ _ (text_plain (lead_cell play.lead)) (both _ _ (tricks_plain play.outcome) refl)))
@@ -81,7 +81,7 @@ percent_plain : (hundredths : Option ℕ) → IsPlain (percent_data hundredths)
 percent_plain None = refl
 percent_plain (Some found) = refl
 
-gain_plain : (scoring : Scoring) (available : ℕ) (gain : Option ℤ) → IsPlain (gain_data scoring available gain)
+pub gain_plain : (scoring : Scoring) (available : ℕ) (gain : Option ℤ) → IsPlain (gain_data scoring available gain)
 gain_plain scoring available gain = both _ _ (percent_plain (share_of scoring available gain)) (both _ _ (text_plain (gain_cell scoring gain)) refl)
 
 course_plain : (auction : AuctionValue) (played : Option PlayValue) → IsPlain (course_data auction played)
@@ -98,7 +98,7 @@ play_plain s available line =
     both _ _ (averages_plain line.play.outcome) (both _ _ (found_plain s (shown_record s line.play)) (both _ _ (gain false) (both _ _ (gain true)
     (both _ _ (result_plain line.play) (both _ _ refl (both _ _ (number_plain (line_score line.comparison)) refl))))))
 
-deal_plain : (board : ℕ) (deal : Option (List ℕ)) → IsPlain (deal_data board deal)
+pub deal_plain : (board : ℕ) (deal : Option (List ℕ)) → IsPlain (deal_data board deal)
 deal_plain board None = refl
 deal_plain board (Some hands) = refl
 
@@ -109,12 +109,12 @@ board_plain s board =
     (both _ _ (list_plain (play_data s available) (play_plain s available) (traveller s board))
     (both _ _ (text_plain (vulnerability_text (vulnerability_on board))) refl))))
 
-total_plain : (scoring : Scoring) (ranked : Ranked) → IsPlain (total_data scoring ranked)
+pub total_plain : (scoring : Scoring) (ranked : Ranked) → IsPlain (total_data scoring ranked)
 total_plain MatchPoints ranked =
     both _ _ (text_plain (tenths_text ranked.available)) (both _ _ (percent_plain (share_percent ranked)) (both _ _ (text_plain (tenths_text (unsigned_abs ranked.value))) refl))
 total_plain Imps ranked = both _ _ refl (both _ _ refl (both _ _ (text_plain (signed_decimal ranked.value)) refl))
 
-names_plain : (pairs : List Pair) (pair : ℕ) → IsPlain (names_data pairs pair)
+pub names_plain : (pairs : List Pair) (pair : ℕ) → IsPlain (names_data pairs pair)
 names_plain pairs pair = both _ _ (text_plain (player_name pairs pair true)) (both _ _ (text_plain (player_name pairs pair false)) refl)
 
 ranked_plain : (scoring : Scoring) (pairs : List Pair) (ranked : Ranked) → IsPlain (ranked_data scoring pairs ranked)
@@ -125,7 +125,7 @@ field_plain : (configuration : ConfigValue) (ranking : Option (List Ranked)) →
 field_plain configuration None = refl
 field_plain configuration (Some ranking) = list_plain (ranked_data configuration.scoring configuration.pairs) (ranked_plain configuration.scoring configuration.pairs) ranking
 
-event_plain : (configuration : ConfigValue) → IsPlain (event_data configuration)
+pub event_plain : (configuration : ConfigValue) → IsPlain (event_data configuration)
 event_plain configuration =
     both _ _ (text_plain configuration.date) (both _ _ (text_plain configuration.event)
     (both _ _ (text_plain (scoring_text configuration.scoring)) (both _ _ (text_plain configuration.site) refl)))

@@ -1,2 +1,2 @@
-mod Lists
-mod Floats
+pub mod Lists
+pub mod Floats

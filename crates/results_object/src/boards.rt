@@ -26,7 +26,7 @@ use serde_json::Value;
 use std::alloc::{AllocError, Global};
 
 /// The hands, the dealer's first.
-fn hands_value(alloc: Global, board: BoardNumber, deal: &Deal) -> Result<Value, AllocError>
+pub fn hands_value(alloc: Global, board: BoardNumber, deal: &Deal) -> Result<Value, AllocError>
     ensures { IsValue (deal_data board (Some deal.now)) result }
 {
     let mut text = ArrayString::<DEAL_BYTES>::new();
@@ -45,14 +45,14 @@ fn deal_value(alloc: Global, session: &Session, board: BoardNumber) -> Result<Va
 }
 
 /// The dealer's letter.
-fn dealer_value(alloc: Global, board: BoardNumber) -> Result<Value, AllocError>
+pub fn dealer_value(alloc: Global, board: BoardNumber) -> Result<Value, AllocError>
     ensures { IsValue (text_data (seat_letter (dealer_of board) ∷ [])) result }
 {
     text_value(alloc, seat_text(dealer(board)))
 }
 
 /// The vulnerability.
-fn vulnerable_value(alloc: Global, board: BoardNumber) -> Result<Value, AllocError>
+pub fn vulnerable_value(alloc: Global, board: BoardNumber) -> Result<Value, AllocError>
     ensures { IsValue (text_data (vulnerability_text (vulnerability_on board))) result }
 {
     text_value(alloc, vulnerability_text(vulnerability_of(board)))

@@ -6,12 +6,12 @@
 //! ```
 #![tactic(auto)]
 
-mod boards;
-mod builder;
+pub mod boards;
+pub mod builder;
 mod course;
-mod object;
-mod plays;
-mod rankings;
-mod values;
+pub mod object;
+pub mod plays;
+pub mod rankings;
+pub mod values;
 
 pub use object::object_text;

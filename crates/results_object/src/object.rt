@@ -41,7 +41,7 @@ fn event_by(alloc: Global, fields: &ConfigFields) -> Result<Value, AllocError>
 }
 
 /// The event.
-fn event_value(alloc: Global, config: &Config) -> Result<Value, AllocError>
+pub fn event_value(alloc: Global, config: &Config) -> Result<Value, AllocError>
     ensures { IsValue (event_data config.now) result }
 {
     event_by(alloc, config.fields())

@@ -21,7 +21,7 @@ use session_rules::Outcome;
 use std::alloc::{AllocError, Global};
 
 /// Who met, when and where.
-fn row_value(alloc: Global, row: &Row) -> Result<Value, AllocError>
+pub fn row_value(alloc: Global, row: &Row) -> Result<Value, AllocError>
     ensures { IsValue (row_data row.now) result }
 {
     ObjectBuilder::new(alloc)
@@ -51,7 +51,7 @@ fn pair_value(alloc: Global, ns: u8, ew: u8) -> Result<Value, AllocError>
 }
 
 /// The averages that were awarded in place of a score.
-fn averages_value(alloc: Global, outcome: Outcome) -> Result<Value, AllocError>
+pub fn averages_value(alloc: Global, outcome: Outcome) -> Result<Value, AllocError>
     ensures { IsValue (averages_data outcome) result }
 {
     match outcome {
@@ -61,7 +61,7 @@ fn averages_value(alloc: Global, outcome: Outcome) -> Result<Value, AllocError>
 }
 
 /// The contract or what else came of the play, declarer, the opening lead, and the tricks.
-fn result_value(alloc: Global, play: &TablePlay) -> Result<Value, AllocError>
+pub fn result_value(alloc: Global, play: &TablePlay) -> Result<Value, AllocError>
     ensures { IsValue (result_data play.now) result }
 {
     let contract = text_value(alloc, contract_cell(play.outcome).as_str());
@@ -75,7 +75,7 @@ fn result_value(alloc: Global, play: &TablePlay) -> Result<Value, AllocError>
 }
 
 /// What a side gained, if anything can be.
-fn gain_of(comparison: Option<Comparison>, ns: bool) -> Option<i32>
+pub fn gain_of(comparison: Option<Comparison>, ns: bool) -> Option<i32>
     ensures { result ≡ gain_of ns comparison }
 {
     match comparison {
@@ -101,7 +101,7 @@ fn share_of(scoring: Scoring, available: u32, gain: Option<i32>) -> Option<u32>
 }
 
 /// What a side gained, and the same in per cent.
-fn gain_value(
+pub fn gain_value(
     alloc: Global,
     scoring: Scoring,
     available: u32,

@@ -55,7 +55,7 @@ fn sum_value(alloc: Global, ranked: &Ranked) -> Result<Value, AllocError>
 }
 
 /// What a pair gained in all.
-fn total_value(alloc: Global, scoring: Scoring, ranked: &Ranked) -> Result<Value, AllocError>
+pub fn total_value(alloc: Global, scoring: Scoring, ranked: &Ranked) -> Result<Value, AllocError>
     ensures { IsValue (total_data scoring ranked.now) result }
 {
     match scoring {
@@ -65,7 +65,7 @@ fn total_value(alloc: Global, scoring: Scoring, ranked: &Ranked) -> Result<Value
 }
 
 /// The names of a pair's players.
-fn names_value(alloc: Global, pairs: &[PairFields], pair: u8) -> Result<Value, AllocError>
+pub fn names_value(alloc: Global, pairs: &[PairFields], pair: u8) -> Result<Value, AllocError>
     ensures { IsValue (names_data (map pair_of pairs.now) pair) result }
 {
     let first = text_value(alloc, player_name(pairs, pair, true))?;

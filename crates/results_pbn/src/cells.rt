@@ -8,7 +8,7 @@ ghost use Rattle.results_pbn.specs.Cells.{or_dash, right_cell, left_cell};
 use page_layout::{PAGE_BYTES, PageText, push_bytes};
 
 /// Adds so many blanks.
-fn push_blanks(text: &mut PageText, count: usize)
+pub fn push_blanks(text: &mut PageText, count: usize)
     requires { array_vec_len text.old + count ≤ PAGE_BYTES }
     ensures text { text.new.items ≡ text.old.items ++ replicate count 32 }
     ensures room { array_vec_len text.new ≡ array_vec_len text.old + count }

@@ -6,11 +6,11 @@
 //! ```
 #![tactic(auto)]
 
-mod cells;
+pub mod cells;
 mod games;
-mod optimum;
-mod scores;
-mod tags;
-mod totals;
+pub mod optimum;
+pub mod scores;
+pub mod tags;
+pub mod totals;
 
 pub use games::write_results_games;

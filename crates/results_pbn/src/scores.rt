@@ -117,7 +117,7 @@ fn score_row(scoring: Scoring, line: &BoardLine) -> PageText
 }
 
 /// Writes the row of a line.
-fn write_row<W: Write>(scoring: Scoring, line: &BoardLine, writer: &mut W) -> Result<(), Error>
+pub fn write_row<W: Write>(scoring: Scoring, line: &BoardLine, writer: &mut W) -> Result<(), Error>
     ensures { Written (stream W.contents writer.old writer.new) (score_row scoring line.now) result }
 {
     write_text(writer, score_row(scoring, line).as_slice())
@@ -135,7 +135,7 @@ fn write_rows<W: Write>(scoring: Scoring, lines: &[BoardLine], writer: &mut W) -
 
 /// The columns of what was gained.
 #[tactic(auto, unfolding(crate::specs::Scores::gain_columns))]
-fn gain_columns(scoring: Scoring) -> &'static [u8]
+pub fn gain_columns(scoring: Scoring) -> &'static [u8]
     ensures text { result.now ≡ gain_columns scoring }
     ensures short { length result.now ≤ 30 }
 {

@@ -4,7 +4,7 @@ ghost use Rattle.std.specs.Option.{option_copied};
 ghost use Rattle.arrayvec.specs.ArrayVec.{array_vec_len};
 ghost use Rattle.line_text.specs.Lines.{lines_text};
 ghost use Rattle.line_text.specs.Streams.{stream, Written};
-ghost use Rattle.bridge_pbn.specs.Tags.{tag, scoring_text, event_tags};
+ghost use Rattle.bridge_pbn.specs.Tags.{tag, event_tags};
 ghost use Rattle.results_pbn.specs.Games.{no_players, no_outcome, hands_text, board_tags, head_text};
 
 use arrayvec::ArrayString;
@@ -13,6 +13,7 @@ use bridge_cards::{
     vulnerability_text,
 };
 use bridge_config::Config;
+use bridge_pbn::names::scoring_text;
 use line_text::{number_text, write_text};
 use page_layout::{PageText, push_bytes};
 use std::io::{Error, Write};
@@ -48,17 +49,6 @@ fn event_tags(config: &Config, board: BoardNumber) -> PageText
     push_tag(&mut text, "Date", fields.date.as_str());
     push_tag(&mut text, "Board", number.as_str());
     text
-}
-
-/// How scores are compared, as the standard names it.
-fn scoring_text(scoring: Scoring) -> &'static str
-    ensures text { result.now ≡ scoring_text scoring }
-    ensures short { length result.now ≤ 3 }
-{
-    match scoring {
-        Scoring::MatchPoints => "MP",
-        Scoring::Imps => "IMP",
-    }
 }
 
 /// The hands of a deal, the dealer's first.

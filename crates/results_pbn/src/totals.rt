@@ -49,7 +49,7 @@ pub fn first_board(plays: &[TablePlay]) -> u8
 }
 
 /// In which section a pair sits.
-fn section_text(two: bool, field: Field) -> &'static [u8]
+pub fn section_text(two: bool, field: Field) -> &'static [u8]
     ensures text { result.now ≡ section_text two field }
     ensures short { length result.now ≤ 1 }
 {
@@ -102,7 +102,7 @@ fn sum_cells(ranked: &Ranked) -> PageText
 }
 
 /// What a pair gained.
-fn value_cells(scoring: Scoring, ranked: &Ranked) -> PageText
+pub fn value_cells(scoring: Scoring, ranked: &Ranked) -> PageText
     ensures cells { result.items ≡ value_cells scoring ranked.now }
     ensures short { array_vec_len result ≤ 300 }
 {
@@ -114,7 +114,7 @@ fn value_cells(scoring: Scoring, ranked: &Ranked) -> PageText
 
 /// The names of a pair's players, which end a row.
 #[tactic(auto, unfolding(crate::specs::Totals::names_cell))]
-fn names_cell(pairs: &[PairFields], pair: u8) -> PageText
+pub fn names_cell(pairs: &[PairFields], pair: u8) -> PageText
     ensures cell { result.items ≡ names_cell (map pair_of pairs.now) pair }
     ensures short { array_vec_len result ≤ 300 }
 {

@@ -7,6 +7,7 @@ use Rattle.bridge_play.specs.Play.{PlayValue}
 use Rattle.bridge_play.specs.Trick.{trump_of}
 use Rattle.bridge_endings.specs.declared.card_cost.CardCost.{CardCost}
 use Rattle.bridge_endings.specs.PlayedCards.{first_moment, are_legal, costs_of}
+use Rattle.event_ranking.specs.Dealt.{first_deal}
 use Rattle.makeable_deals.specs.Makeable.{table_of}
 use Rattle.session_rules.specs.declared.action.PlayId.{PlayId}
 use Rattle.session_rules.specs.Record.{PlainRecord, play_of}
@@ -34,6 +35,14 @@ seen_table found = option_map (λ (known : Makeable). known.table) found
 -- these are what could be made on the boards of a session
 abbrev pub AreBoardsOf : SessionValue → List (Option Makeable) → Type 0
 AreBoardsOf s boards = map seen_table boards ≡ tables_of s
+
+-- the same of several sections, by the deal of the first that has the board dealt
+unfoldable pub event_tables_of : List SessionValue → List (Option TrickTable)
+event_tables_of sections = map (λ board. option_map table_of (first_deal sections board)) (range_with_len 1 36)
+
+-- these are what could be made on their boards
+abbrev pub AreEventBoardsOf : List SessionValue → List (Option Makeable) → Type 0
+AreEventBoardsOf sections boards = map seen_table boards ≡ event_tables_of sections
 
 -- ---- what cards cost
 

@@ -32,7 +32,7 @@ fn dealt_count(session: &Session) -> usize {
 }
 
 /// What could be made of a deal, once there is one.
-fn makeable_of(
+pub(crate) fn makeable_of(
     alloc: Global,
     deal: Option<&Deal>,
     progress: &mut Progress,

@@ -8,8 +8,10 @@
 
 pub mod boards;
 pub mod costs;
+pub mod event_boards;
 pub mod found;
 
 pub use boards::{Boards, boards_of};
 pub use costs::costs_of;
+pub use event_boards::event_boards_of;
 pub use found::{Found, Plays, analysis_of};

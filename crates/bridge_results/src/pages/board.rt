@@ -66,7 +66,7 @@ fn board_head(format: Format, board: BoardNumber) -> PageText
 }
 
 /// Writes what stands above the hands of a board.
-fn write_head<W: Write>(format: Format, board: BoardNumber, writer: &mut W) -> Result<(), Error>
+pub fn write_head<W: Write>(format: Format, board: BoardNumber, writer: &mut W) -> Result<(), Error>
     ensures { Written (stream W.contents writer.old writer.new) (board_head format board) result }
 {
     let text = board_head(format, board);

@@ -67,7 +67,7 @@ pub fn write_event<W: Write>(format: Format, config: &Config, writer: &mut W) ->
 }
 
 /// Writes what ends the page.
-fn write_page_end<W: Write>(format: Format, writer: &mut W) -> Result<(), Error>
+pub fn write_page_end<W: Write>(format: Format, writer: &mut W) -> Result<(), Error>
     ensures { Written (stream W.contents writer.old writer.new) (page_end format) result }
 {
     let mut text = PageText::new();

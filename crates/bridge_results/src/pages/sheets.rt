@@ -24,7 +24,11 @@ use page_layout::{
 use std::io::{Error, Write};
 
 /// Writes what begins a sheet of that heading.
-fn write_sheet_head<W: Write>(format: Format, heading: &[u8], writer: &mut W) -> Result<(), Error>
+pub fn write_sheet_head<W: Write>(
+    format: Format,
+    heading: &[u8],
+    writer: &mut W,
+) -> Result<(), Error>
     requires { length heading.now ≤ 20 }
     ensures { Written (stream W.contents writer.old writer.new) (sheet_head format heading.now) result }
 {

@@ -74,7 +74,7 @@ fn gain_fields(scoring: Scoring, line: &BoardLine) -> PageText
 
 /// The row of a play.
 #[tactic(auto, unfolding(crate::specs::TablesText::play_row))]
-fn play_row(scoring: Scoring, board: BoardNumber, line: &BoardLine) -> PageText
+pub fn play_row(scoring: Scoring, board: BoardNumber, line: &BoardLine) -> PageText
     ensures { result.items ≡ play_row scoring board line.now }
 {
     let mut text = meeting_fields(board, &line.play.row);

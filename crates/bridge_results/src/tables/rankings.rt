@@ -21,7 +21,7 @@ use page_layout::{PageText, push_bytes};
 use std::io::{Error, Write};
 
 /// The number of a field.
-fn field_number(field: Field) -> &'static [u8]
+pub fn field_number(field: Field) -> &'static [u8]
     ensures text { result.now ≡ field_number field }
     ensures short { length result.now ≤ 1 }
 {
@@ -78,7 +78,7 @@ fn sum_fields(ranked: &Ranked) -> PageText
 }
 
 /// What a pair gained.
-fn value_fields(scoring: Scoring, ranked: &Ranked) -> PageText
+pub fn value_fields(scoring: Scoring, ranked: &Ranked) -> PageText
     ensures text { result.items ≡ value_fields scoring ranked.now }
     ensures short { array_vec_len result ≤ 300 }
 {

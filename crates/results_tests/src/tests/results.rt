@@ -1,4 +1,7 @@
 //! Worked results of three tables, three rounds and three boards, each worked out by hand from the Laws.
+mod event;
+mod event_pages;
+mod exports;
 mod games;
 mod html;
 mod makeable;

@@ -31,6 +31,9 @@ returns-in-Results g c = rw c.in-Results.is c.write_page.ensures
 pub returns-in-Export : goal.returns-in-Export
 returns-in-Export g c = rw c.in-Export.is c.export.ensures
 
+pub returns-in-Event : goal.returns-in-Event
+returns-in-Event g c = rw c.in-Event.is (rw c.in-Event.is at c.run_event.ensures, Keeps-refl _)
+
 pub returns-in-Check : goal.returns-in-Check
 returns-in-Check g c = rw c.in-Check.is c.run_check.ensures
 

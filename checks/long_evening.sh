@@ -1,0 +1,15 @@
+#!/bin/sh
+# Eight hours of tables compressed into minutes: 28 pages play a whole evening of 12 tables and 432 plays over two disks, each change
+# looked at by all of a table's pages, at least 200,000 lines in all. Memory and descriptors of `web` are level once a fifth is
+# done, no look takes 100 ms, and in the end both disks hold the ranking and the results that `script` makes of the same lines.
+#
+#     checks/long_evening.sh
+#
+# PROGRAM names a program that was built before; else it is proved and built.
+set -eu
+top=$(cd "$(dirname "$0")/.." && pwd)
+work=$(mktemp -d)
+trap 'rm -rf "$work"' EXIT
+. "$top/bench/build.sh"
+club_program
+PYTHONDONTWRITEBYTECODE=1 python3 "$top/checks/long_evening/pages.py" "$program" "$work"

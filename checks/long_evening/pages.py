@@ -1,0 +1,108 @@
+"""28 pages of one evening over two disks: who is to act sends a line, and then all pages look.
+
+Words: the program, and a folder for files.
+"""
+import concurrent.futures
+import os
+import subprocess
+import sys
+import time
+
+HERE = os.path.dirname(os.path.abspath(__file__))
+sys.path[:0] = [os.path.join(HERE, "..", "..", "bench", "serve"), os.path.join(HERE, "..", "..", "bench", "web")]
+import evening
+from sockets import PORT, asked, connected, percentiles, request
+
+PAGES = 28
+LOOKS = 8  # how many pages look after each change
+MOST = 0.1  # of a look, in seconds
+
+
+def of_process(process):
+    """Kilobytes of memory that it has, and how many descriptors."""
+    with open(f"/proc/{process.pid}/status") as file:
+        memory = next(int(line.split()[1]) for line in file if line.startswith("VmRSS:"))
+    return memory, len(os.listdir(f"/proc/{process.pid}/fd"))
+
+
+def body(answer):
+    return answer.split(b"\r\n\r\n", 1)[1]
+
+
+class Page:
+    def __init__(self):
+        self.connection = connected()
+        self.looks = []
+
+    def sends(self, line):
+        start = time.perf_counter()
+        answer = body(asked(self.connection, request(b"/lines", line.encode() + b"\n")))
+        assert answer == b"OK\n", (line, answer)
+        return time.perf_counter() - start
+
+    def looks_at(self, key):
+        start = time.perf_counter()
+        answer = body(asked(self.connection, request(b"/lines", b"SEE %d\n" % key)))
+        self.looks.append(time.perf_counter() - start)
+        # A pair whose boards of the round are over has none to see.
+        assert not answer.startswith(b"ERR") or answer == b"ERR 7 NotCurrent\n", answer
+
+
+def played(process, lines):
+    """The lines sent, each by the page of its turn and then looked at; what was measured of the process, and of the changes."""
+    pages = [Page() for _ in range(PAGES)]
+    changes, measures, told, begun = [], [], 0, time.perf_counter()
+    with concurrent.futures.ThreadPoolExecutor(LOOKS) as together:
+        for at, line in enumerate(lines):
+            changes.append(pages[at % PAGES].sends(line))
+            if at + 1 == len(lines):
+                break  # the session is closed, and nothing is to be seen
+            seen = [together.submit(pages[(at + step) % PAGES].looks_at, 2 + (at + step) % 48) for step in range(1, LOOKS + 1)]
+            for one in seen:
+                one.result()
+            told += 1 + LOOKS
+            if at % 500 == 0:
+                measures.append(of_process(process))
+    looks = [look for page in pages for look in page.looks]
+    print(f"{told} lines by {PAGES} pages in {time.perf_counter() - begun:.0f} s; a look: {percentiles(looks)}, the last {max(looks) * 1000:.1f} ms; "
+          f"a change, two syncs with it: {percentiles(changes)}, the last {max(changes) * 1000:.1f} ms")
+    return told, looks, measures
+
+
+def printed(program, *words):
+    return subprocess.run([program, *words], check=True, stdin=subprocess.DEVNULL, stdout=subprocess.PIPE).stdout
+
+
+def main():
+    program, folder = sys.argv[1:3]
+    disk, copy, other = (os.path.join(folder, name) for name in ("club.disk", "copy.disk", "script.disk"))
+    files = evening.write(folder)
+    for path in (disk, other):
+        printed(program, "format", path, os.path.join(folder, "config.txt"))
+    printed(program, "copy", disk, copy)
+    lines = []
+    for path in files:
+        with open(path, encoding="ascii") as file:
+            lines += [line for line in file.read().split("\n") if line and not line.startswith("SYNC")]
+        with open(path, encoding="ascii") as file:
+            subprocess.run([program, "script", other], check=True, stdin=file, stdout=subprocess.DEVNULL)
+    process = subprocess.Popen([program, "web", disk, str(PORT), "600", "--copy", copy], stdin=subprocess.DEVNULL, stdout=subprocess.DEVNULL)
+    try:
+        told, looks, measures = played(process, lines)
+    finally:
+        process.kill()
+        process.wait()
+    level = measures[len(measures) // 5:]
+    memory, descriptors = ([one[at] for one in level] for at in (0, 1))
+    print(f"memory {min(memory)} to {max(memory)} kB, descriptors {min(descriptors)} to {max(descriptors)}, from a fifth on")
+    assert told >= 200_000, told
+    assert max(looks) < MOST, max(looks)
+    assert max(memory) - min(memory) <= 64 and min(descriptors) == max(descriptors)
+    for words in (["rank"], ["results", "--no-analysis"], ["pbn"]):
+        due = printed(program, words[0], other, *words[1:])
+        for path in (disk, copy):
+            assert printed(program, words[0], path, *words[1:]) == due, (words, path)
+    print("both disks hold the ranking, the results and the games that script makes of these lines")
+
+
+main()

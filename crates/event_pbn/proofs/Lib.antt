@@ -1,0 +1,2 @@
+mod PlayedGame
+mod Found

@@ -1,0 +1,10 @@
+pub mod Mirror
+pub mod Joined
+pub mod Order
+pub mod Added
+pub mod Pairs
+pub mod Games
+pub mod OneSection
+pub mod Alike
+pub mod Lines
+pub mod Deals

@@ -1,0 +1,6 @@
+pub mod Place
+pub mod Passed
+pub mod OneSection
+pub mod RankedSections
+pub mod Played
+pub mod Order

@@ -1,0 +1,9 @@
+use Rattle.std.proofs.Common.{take}
+use Rattle.std.specs.Prelude.{flat_map}
+use Rattle.line_text.specs.Streams.{between, Takes}
+use Rattle.event_results.specs.EventTables.{play_row}
+use Rattle.event_results.proofs.tables.plays.write_rows.Given as goal
+
+abbrev pub invariant-loop-play : goal.invariant-loop-play
+invariant-loop-play g l =
+    Takes (between (g.W.Write.contents l.fn.writer) (g.W.Write.contents l.writer)) (flat_map (play_row l.scoring l.board) (take l.play-index l.plays))
