@@ -104,7 +104,7 @@ fault_line (Makeable fault) = makeable_line fault
 fault_line (Store fault) = store_line fault
 fault_line (Joining fault) = join_line fault
 fault_line (Lost disk) = lost_line disk
-fault_line (Section disk) = section_words disk.section ++ store_line disk.fault
+fault_line (Section section fault) = section_words section ++ store_line fault
 fault_line (Field other) = other_section_line other
 
 -- the exit status where a disk is refused or has failed: 4 where it holds no session, and 3 otherwise
@@ -123,5 +123,5 @@ join_status _ = 3
 abbrev pub fault_status : RunFault → ℕ
 fault_status (Store fault) = store_status fault
 fault_status (Joining fault) = join_status fault
-fault_status (Section disk) = store_status disk.fault
+fault_status (Section section fault) = store_status fault
 fault_status _ = 3

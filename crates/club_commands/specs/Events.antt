@@ -105,7 +105,7 @@ AreRead count sections = (length sections ≡ count) × All IsRead sections
 
 -- the disk of the section of that number gives none, for this cause
 abbrev pub IsUnreadSection : ℕ → RunFault → Type 0
-IsUnreadSection section fault = (cause : StoreFault) × IsUnread cause × (fault ≡ Section (record { section = section; fault = cause }))
+IsUnreadSection section fault = (cause : StoreFault) × IsUnread cause × (fault ≡ Section section cause)
 
 -- that of one of so many sections gives none, or memory was refused
 abbrev pub FailsReading : ℕ → RunFault → Type 0

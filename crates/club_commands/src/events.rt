@@ -8,7 +8,7 @@ ghost use Rattle.club_commands.specs.Events.{AreRead, IsUnreadSection, FailsRead
 
 use crate::copying::session_on;
 use crate::event_texts::tell_event;
-use crate::fault::{OtherSection, RunFault, SectionDisk};
+use crate::fault::{OtherSection, RunFault};
 use crate::machine::Machine;
 use bridge_session::Session;
 use club_disk::{Access, lock_for, locked_disk};
@@ -40,7 +40,7 @@ fn section_in<S: Machine>(
 {
     match session_in(rt, alloc, disk) {
         Ok(session) => Ok(session),
-        Err(fault) => Err(RunFault::Section(SectionDisk { section, fault })),
+        Err(fault) => Err(RunFault::Section { section, fault }),
     }
 }
 

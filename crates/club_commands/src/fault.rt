@@ -40,15 +40,6 @@ pub struct OtherSection {
     pub difference: Difference,
 }
 
-/// The disk of a section that gives no session.
-#[derive(Clone, Copy, Debug, PartialEq, Eq)]
-pub struct SectionDisk {
-    /// The section's number, from 1.
-    pub section: u8,
-    /// Why.
-    pub fault: StoreFault,
-}
-
 /// Why a command stopped.
 #[derive(Clone, Copy, Debug, PartialEq, Eq)]
 pub enum RunFault {
@@ -69,7 +60,12 @@ pub enum RunFault {
     /// One of two disks was lost, and the session went on in the other.
     Lost(LostDisk),
     /// The disk of a section is refused or has failed.
-    Section(SectionDisk),
+    Section {
+        /// The section's number, from 1.
+        section: u8,
+        /// Why.
+        fault: StoreFault,
+    },
     /// The sessions on several disks are not one field.
     Field(OtherSection),
 }

@@ -35,7 +35,7 @@ pub fn fault_status(fault: RunFault) -> u8
         RunFault::Store(fault) => store_status(fault),
         RunFault::Joining(fault) => join_status(fault),
         RunFault::Lost(_) => FAULT,
-        RunFault::Section(disk) => store_status(disk.fault),
+        RunFault::Section { fault, .. } => store_status(fault),
         RunFault::Field(_) => FAULT,
     }
 }
@@ -73,7 +73,7 @@ pub fn fault_line(fault: RunFault) -> FaultLine
         RunFault::Store(fault) => store_line(fault),
         RunFault::Joining(fault) => join_line(fault),
         RunFault::Lost(lost) => lost_line(lost),
-        RunFault::Section(disk) => section_line(disk.section, disk.fault),
+        RunFault::Section { section, fault } => section_line(section, fault),
         RunFault::Field(other) => other_section_line(other),
     }
 }

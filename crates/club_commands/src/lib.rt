@@ -47,7 +47,7 @@ mod work;
 
 pub use check::check_disk;
 pub use config_file::read_session;
-pub use fault::{LostDisk, OtherSection, RunFault, SectionDisk, SystemFault};
+pub use fault::{LostDisk, OtherSection, RunFault, SystemFault};
 pub use machine::{Alarm, Host, Machine};
 pub use pair_web::show_pair;
 pub use planning::plan_evening;

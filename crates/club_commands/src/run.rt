@@ -81,7 +81,7 @@ pub fn refuse<E: Write>(fault: WordsFault, errors: &mut E) -> u8
             let _ = write!(Printable { writer: errors }, "{error}");
             USAGE
         }
-        WordsFault::Memory => fails(RunFault::Store(StoreFault::NoMemory), errors),
+        WordsFault::Memory => fails(&RunFault::Store(StoreFault::NoMemory), errors),
     }
 }
 
@@ -101,7 +101,7 @@ fn run_command<S: Machine, R: Read, W: Write, E: Write>(
 {
     match do_command(rt, alloc, texts, command, input, output) {
         Ok(()) => DONE,
-        Err(fault) => fails(fault, errors),
+        Err(fault) => fails(&fault, errors),
     }
 }
 
@@ -167,22 +167,20 @@ pub fn status_of<E: Write>(outcome: Result<u8, ErrorKind>, errors: &mut E) -> u8
 {
     match outcome {
         Ok(status) => status,
-        Err(ErrorKind::OutOfMemory) => fails(RunFault::Store(StoreFault::NoMemory), errors),
+        Err(ErrorKind::OutOfMemory) => fails(&RunFault::Store(StoreFault::NoMemory), errors),
         Err(ErrorKind::InvalidData) => {
             let _ = write_text(errors, NOT_TEXT.as_bytes());
             USAGE
         }
-        Err(_) => fails(RunFault::Stream(ServeFault::Read), errors),
+        Err(_) => fails(&RunFault::Stream(ServeFault::Read), errors),
     }
 }
 
 /// Writes the line of a fault, as much of it as `errors` takes, and answers its exit status.
-fn fails<E: Write>(fault: RunFault, errors: &mut E) -> u8
-    ensures status { result ≡ fault_status fault }
-    ensures line { TakesPrefix (stream E.contents errors.old errors.new) (fault_line fault) }
+fn fails<E: Write>(fault: &RunFault, errors: &mut E) -> u8
+    ensures status { result ≡ fault_status fault.now }
+    ensures line { TakesPrefix (stream E.contents errors.old errors.new) (fault_line fault.now) }
 {
-    let status = fault_status(fault);
-    let line = fault_line(fault);
-    let _ = write_text(errors, line.as_str().as_bytes());
-    status
+    let _ = write_text(errors, fault_line(*fault).as_str().as_bytes());
+    fault_status(*fault)
 }
