@@ -36,10 +36,11 @@ html_ranked Imps names pairs ranked =
     linked_row SUM_COLUMNS ([] ∷ pair_target ranked.pair ∷ [] ∷ [] ∷ [])
     (decimal ranked.place ∷ decimal ranked.pair ∷ shown_pair names pairs ranked.pair ∷ signed_decimal ranked.value ∷ [])
 
--- what begins a ranking of that heading
+-- what begins a ranking of that heading, which is its caption too
 unfoldable pub html_ranking_start : Scoring → List ℕ → List ℕ
 html_ranking_start scoring heading =
-    ((codes "<section class=\"sheet\">\n<h2>" ++ heading) ++ codes "</h2>\n<table>\n") ++ ranked_titles Html scoring
+    ((((codes "<section class=\"sheet\">\n<h2>" ++ heading) ++ codes "</h2>\n<table>\n<caption>") ++ heading) ++ codes "</caption>\n")
+    ++ ranked_titles Html scoring
 
 -- the rows of a ranking
 abbrev pub html_ranked_rows : Scoring → Names → List Pair → List Ranked → List ℕ

@@ -14,7 +14,7 @@ use Rattle.page_layout.specs.declared.format.Level.TheVariants as level
 use Rattle.page_layout.specs.declared.format.Section.TheVariants as part
 use Rattle.line_text.specs.Decimals.{tenths_text, percent_text}
 use Rattle.page_layout.specs.Page.{heading_text, section_start, section_end}
-use Rattle.page_layout.specs.Table.{row_text, title_row, table_start, table_end}
+use Rattle.page_layout.specs.Table.{row_text, title_row, table_start, caption_text, table_end}
 use Rattle.bridge_results.specs.declared.pages.columns.TheConstants.{SHARE_COLUMNS, SUM_COLUMNS}
 use Rattle.event_ranking.specs.declared.ranking.SectionRanked.{SectionRanked}
 use Rattle.event_ranking.specs.declared.sheet.Among.{Among}
@@ -90,8 +90,8 @@ heading_words among field = among_words among ++ field_words field
 -- what stands before the rows of a ranking
 abbrev pub sheet_head : Format → Scoring → Among → Field → List ℕ
 sheet_head format scoring among field =
-    ((section_start format part.Sheet ++ heading_text format level.Sheet (heading_words among field)) ++ table_start format)
-    ++ wide_titles format scoring
+    (((section_start format part.Sheet ++ heading_text format level.Sheet (heading_words among field)) ++ table_start format)
+    ++ caption_text format (heading_words among field)) ++ wide_titles format scoring
 
 -- A ranking of pairs of these sections: a sheet with a row for each, in order.
 abbrev pub sheet_text : Format → List SessionValue → Among → Field → List SectionRanked → List ℕ

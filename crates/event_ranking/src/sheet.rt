@@ -18,7 +18,7 @@ use bridge_ranking::Field;
 use bridge_session::Session;
 use line_text::write_text;
 use page_layout::{
-    Format, Level, PageText, Section, push_heading, push_section_end, push_section_start,
+    Format, Level, PageText, Section, push_caption, push_heading, push_section_end, push_section_start,
     push_table_end, push_table_start,
 };
 use std::io::{Error, Write};
@@ -112,6 +112,7 @@ fn write_head<W: Write>(
     push_section_start(&mut text, format, Section::Sheet);
     push_heading(&mut text, format, Level::Sheet, words.as_slice());
     push_table_start(&mut text, format);
+    push_caption(&mut text, format, words.as_slice());
     push_wide_titles(&mut text, format, scoring);
     write_text(writer, text.as_slice())
 }

@@ -9,7 +9,7 @@ use Rattle.session_rules.specs.State.{SessionValue}
 use Rattle.line_text.specs.Streams.{Stream, Written}
 use Rattle.page_layout.specs.declared.format.Format.{Format}
 use Rattle.page_layout.specs.Page.{section_end, page_end}
-use Rattle.page_layout.specs.Table.{row_text, title_row, table_start, table_end}
+use Rattle.page_layout.specs.Table.{row_text, title_row, table_start, caption_text, table_end}
 use Rattle.event_results.specs.EventHead.{event_head}
 use Rattle.bridge_results.specs.MakeableText.{MakeableBoards, makeable_on}
 use Rattle.bridge_results.specs.BoardText.{board_head, deal_text, line_cells}
@@ -62,7 +62,7 @@ line_row format scoring play = row_text format LINE_COLUMNS (section_text play.s
 -- what stands above the rows of a traveller
 abbrev pub line_titles : Format → List ℕ
 line_titles format =
-    table_start format
+    (table_start format ++ caption_text format (codes "Results"))
     ++ title_row format LINE_COLUMNS
     (codes "Section" ∷ codes "Round" ∷ codes "Table" ∷ codes "NS" ∷ codes "EW" ∷ codes "Contract" ∷ codes "By" ∷ codes "Lead"
     ∷ codes "Tricks" ∷ codes "Score" ∷ codes "NS gain" ∷ codes "EW gain" ∷ [])

@@ -82,6 +82,11 @@ abbrev pub table_start : Format → List ℕ
 table_start Plain = []
 table_start Html = codes "<table>\n"
 
+-- the caption of a table, which plain text has not
+abbrev pub caption_text : Format → List ℕ → List ℕ
+caption_text Plain words = []
+caption_text Html words = (codes "<caption>" ++ html_text Words words) ++ codes "</caption>\n"
+
 -- what ends a table: in plain text an empty line
 abbrev pub table_end : Format → List ℕ
 table_end Plain = codes "\n"

@@ -20,7 +20,7 @@ mod style;
 mod table;
 mod text;
 
-pub use block::{push_heading, push_paragraph};
+pub use block::{push_caption, push_heading, push_paragraph};
 pub use escape::push_html;
 pub use format::{Align, Column, Content, Format, Level, Section};
 pub use linked::push_linked_row;

@@ -36,12 +36,12 @@ th { border-bottom: 2px solid var(--edge); font-size: .8125rem; color: var(--sec
 .r { text-align: right; }
 .s, .c { color: var(--ink); }
 .h, .d { color: var(--red); }
-.sheet > table, .lines, .card table { width: 100%; }
-.sheet > table td:first-child, .lines td:nth-child(3), .card td:nth-child(5) { font-weight: bold; }
+.sheet > table, .lines, .traveller > table:not([class]):last-child, .card table { width: 100%; }
+.sheet > table td:first-child, .lines td:nth-child(3), .traveller > table:not([class]):last-child td:nth-child(6), .card td:nth-child(5) { font-weight: bold; }
 .sheet > table td:nth-child(3), .card td:nth-child(4) { white-space: normal; overflow-wrap: anywhere; }
 .traveller { display: grid; grid-template-columns: minmax(0, 1fr); gap: 0 2rem; border-top: 1px solid var(--line); }
 .traveller > * { min-width: 0; align-self: start; justify-self: start; }
-.traveller > .lines { justify-self: stretch; order: 1; }
+.traveller > :is(.lines, table:not([class]):last-child) { justify-self: stretch; order: 1; }
 .traveller > details { justify-self: stretch; order: 2; }
 .traveller > h3 + p + table:not([class]) { font-size: 1.125rem; }
 .traveller > h3 + p + table:not([class]) td { padding: 0 1rem 0 0; border: 0; line-height: 1.3; letter-spacing: .06em; }
@@ -75,6 +75,7 @@ td a { margin: -.45rem -.3rem; padding: .45rem .3rem; }
 .lines :is(th, td):is(:nth-child(5), :nth-child(7):not(:nth-last-child(2)), :nth-child(8), :nth-child(10)) { display: none; }
 .card :is(th, td):is(:nth-child(2), :nth-child(4), :nth-child(8):not(:last-child)) { display: none; }
 .lines :is(th, td):nth-last-child(2), .card :is(th, td):last-child { order: -1; }
+.traveller > table:not([class]):last-child :is(th, td):is(:nth-child(2), :nth-child(3), :nth-child(8), :nth-child(9), :nth-child(12)) { display: none; }
 .traveller > h3 + p + table:not([class]) { font-size: 1rem; }
 .traveller > h3 + p + table:not([class]) td { padding-right: .4rem; letter-spacing: 0; }
 }
@@ -86,7 +87,7 @@ details > p { grid-column: 1 / -1; }
 body { grid-template-columns: repeat(2, minmax(0, 1fr)); }
 .sheet:not([id]) { grid-column: auto; }
 .traveller { grid-template-columns: minmax(0, 3fr) minmax(0, 2fr); }
-.traveller > :is(h3, p, .lines, details) { grid-column: 1 / -1; }
+.traveller > :is(h3, p, .lines, table:not([class]):last-child, details) { grid-column: 1 / -1; }
 .traveller:has(> .makeable) > h3 + p + table:not([class]) { grid-row: span 3; }
 .traveller > .makeable + p { grid-column: auto; }
 .sheet:has(> .card) { display: grid; grid-template-columns: repeat(2, minmax(0, 1fr)); gap: 0 1rem; align-items: start; }
@@ -109,7 +110,7 @@ h2, h3 { break-after: avoid; }
 .sheet > h2 { margin-top: 0; }
 .traveller, .card, tr { break-inside: avoid; }
 .traveller { grid-template-columns: minmax(0, 3fr) minmax(0, 2fr); border: 0; }
-.traveller > :is(h3, p, .lines) { grid-column: 1 / -1; }
+.traveller > :is(h3, p, .lines, table:not([class]):last-child) { grid-column: 1 / -1; }
 .traveller:has(> .makeable) > h3 + p + table:not([class]) { grid-row: span 3; }
 .traveller > .makeable + p { grid-column: auto; }
 .traveller > h3 { margin: 0; font-size: 14pt; }

@@ -102,7 +102,9 @@ fn write_start<W: Write>(scoring: Scoring, heading: &[u8], writer: &mut W) -> Re
     let mut text = PageText::new();
     push_bytes(&mut text, b"<section class=\"sheet\">\n<h2>");
     push_bytes(&mut text, heading);
-    push_bytes(&mut text, b"</h2>\n<table>\n");
+    push_bytes(&mut text, b"</h2>\n<table>\n<caption>");
+    push_bytes(&mut text, heading);
+    push_bytes(&mut text, b"</caption>\n");
     push_ranked_titles(&mut text, Format::Html, scoring);
     write_text(writer, text.as_slice())
 }

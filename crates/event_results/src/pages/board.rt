@@ -12,7 +12,7 @@ use bridge_results::pages::cells::{
 };
 use event_ranking::section_letters;
 use line_text::{number_text, write_text};
-use page_layout::{Format, PageText, push_row, push_table_start, push_titles};
+use page_layout::{Format, PageText, push_caption, push_row, push_table_start, push_titles};
 use std::io::{Error, Write};
 
 /// The row of a play.
@@ -83,6 +83,7 @@ fn write_line_titles<W: Write>(format: Format, writer: &mut W) -> Result<(), Err
     ];
     let mut text = PageText::new();
     push_table_start(&mut text, format);
+    push_caption(&mut text, format, b"Results");
     push_titles(&mut text, format, &LINE_COLUMNS, &titles);
     write_text(writer, text.as_slice())
 }
