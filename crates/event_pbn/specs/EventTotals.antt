@@ -16,8 +16,8 @@ use Rattle.event_pbn.specs.SectionCell.{section_cell}
 -- the tag with the columns
 unfoldable pub total_columns : Scoring → List ℕ
 total_columns MatchPoints =
-    codes "[TotalScoreTable \"Section\\2L;Direction\\1L;Rank\\3R;PairId\\2R;TotalScoreMP\\6R;TotalPercentage\\6R;Names\"]\n"
-total_columns Imps = codes "[TotalScoreTable \"Section\\2L;Direction\\1L;Rank\\3R;PairId\\2R;TotalIMP\\6R;Names\"]\n"
+    codes "[TotalScoreTable \"Section\\2L;Direction\\1L;Rank\\3R;PairId\\2R;TotalScoreMP\\7R;TotalPercentage\\6R;Names\"]\n"
+total_columns Imps = codes "[TotalScoreTable \"Section\\2L;Direction\\1L;Rank\\3R;PairId\\2R;TotalIMP\\7R;Names\"]\n"
 
 -- a pair without its place
 abbrev pub unplaced : SectionRanked → Ranked
@@ -38,7 +38,7 @@ names_on sections ranked =
 -- a pair's row
 unfoldable pub total_row : Bool → Scoring → List SessionValue → Field → SectionRanked → List ℕ
 total_row two scoring sections field ranked =
-    (place_cells two field ranked ++ value_cells scoring (unplaced ranked)) ++ names_on sections ranked
+    (place_cells two field ranked ++ value_cells 7 scoring (unplaced ranked)) ++ names_on sections ranked
 
 -- whether a ranking has a pair
 abbrev pub has_any : List SectionRanked → Bool

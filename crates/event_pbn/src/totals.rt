@@ -78,7 +78,7 @@ fn total_row(
     let mut text = place_cells(two, field, ranked);
     push_bytes(
         &mut text,
-        value_cells(scoring, &unplaced(ranked)).as_slice(),
+        value_cells(7, scoring, &unplaced(ranked)).as_slice(),
     );
     push_bytes(&mut text, names_on(sections, ranked).as_slice());
     text
@@ -123,9 +123,9 @@ fn total_columns(scoring: Scoring) -> &'static [u8]
 {
     match scoring {
         Scoring::MatchPoints =>
-            b"[TotalScoreTable \"Section\\2L;Direction\\1L;Rank\\3R;PairId\\2R;TotalScoreMP\\6R;TotalPercentage\\6R;Names\"]\n",
+            b"[TotalScoreTable \"Section\\2L;Direction\\1L;Rank\\3R;PairId\\2R;TotalScoreMP\\7R;TotalPercentage\\6R;Names\"]\n",
         Scoring::Imps =>
-            b"[TotalScoreTable \"Section\\2L;Direction\\1L;Rank\\3R;PairId\\2R;TotalIMP\\6R;Names\"]\n",
+            b"[TotalScoreTable \"Section\\2L;Direction\\1L;Rank\\3R;PairId\\2R;TotalIMP\\7R;Names\"]\n",
     }
 }
 

@@ -30,11 +30,11 @@ section_text false field = codes "-"
 unfoldable pub place_cells : Bool → Field → Ranked → List ℕ
 place_cells two field ranked = (section_text two field ++ right_cell 2 (decimal ranked.place)) ++ right_cell 2 (decimal ranked.pair)
 
--- what a pair gained: matchpoints and the percentage, or IMPs
-unfoldable pub value_cells : Scoring → Ranked → List ℕ
-value_cells MatchPoints ranked =
-    right_cell 6 (tenths_text (unsigned_abs ranked.value)) ++ right_cell 6 (percent_text (share_percent ranked))
-value_cells Imps ranked = right_cell 6 (signed_decimal ranked.value)
+-- what a pair gained: matchpoints or IMPs in a column of that width, and the percentage of matchpoints
+unfoldable pub value_cells : ℕ → Scoring → Ranked → List ℕ
+value_cells width MatchPoints ranked =
+    right_cell width (tenths_text (unsigned_abs ranked.value)) ++ right_cell 6 (percent_text (share_percent ranked))
+value_cells width Imps ranked = right_cell width (signed_decimal ranked.value)
 
 -- the names of its players as one text in quotation marks
 unfoldable pub names_cell : List Pair → ℕ → List ℕ
@@ -42,7 +42,7 @@ names_cell pairs pair = (codes " \"" ++ pair_names pairs pair) ++ codes "\"\n"
 
 -- a pair's row
 unfoldable pub total_row : Bool → Scoring → List Pair → Field → Ranked → List ℕ
-total_row two scoring pairs field ranked = (place_cells two field ranked ++ value_cells scoring ranked) ++ names_cell pairs ranked.pair
+total_row two scoring pairs field ranked = (place_cells two field ranked ++ value_cells 6 scoring ranked) ++ names_cell pairs ranked.pair
 
 -- the rows of a field, if there is such a field
 abbrev pub field_rows : Bool → ConfigValue → Field → Option (List Ranked) → List ℕ

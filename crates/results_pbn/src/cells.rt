@@ -29,7 +29,7 @@ fn or_dash(text: &[u8]) -> &[u8]
 /// Adds a text at the right of so many columns.
 pub fn push_right(text: &mut PageText, width: usize, cell: &[u8])
     requires room { array_vec_len text.old ≤ 2000 }
-    requires width { width ≤ 6 }
+    requires width { width ≤ 7 }
     requires short { length cell.now ≤ 61 }
     ensures text { text.new.items ≡ text.old.items ++ in_width width Right cell.now }
     ensures room { array_vec_len text.new ≤ array_vec_len text.old + 67 }
@@ -41,7 +41,7 @@ pub fn push_right(text: &mut PageText, width: usize, cell: &[u8])
 /// Adds a cell at the right of its column, behind a blank.
 pub fn push_right_cell(text: &mut PageText, width: usize, cell: &[u8])
     requires room { array_vec_len text.old ≤ 1900 }
-    requires width { width ≤ 6 }
+    requires width { width ≤ 7 }
     requires short { length cell.now ≤ 60 }
     ensures text { text.new.items ≡ text.old.items ++ right_cell width cell.now }
     ensures room { array_vec_len text.new ≤ array_vec_len text.old + 70 }

@@ -77,38 +77,41 @@ fn place_cells(two: bool, field: Field, ranked: &Ranked) -> PageText
 
 /// The matchpoints and the percentage.
 #[tactic(auto, unfolding(crate::specs::Totals::value_cells))]
-fn share_cells(ranked: &Ranked) -> PageText
-    ensures cells { result.items ≡ value_cells MatchPoints ranked.now }
+fn share_cells(width: usize, ranked: &Ranked) -> PageText
+    requires { width ≤ 7 }
+    ensures cells { result.items ≡ value_cells width MatchPoints ranked.now }
     ensures short { array_vec_len result ≤ 300 }
 {
     let value = tenths_text(u64::from(ranked.value.unsigned_abs()));
     let percent = percent_text(share_percent(ranked));
     let mut text = PageText::new();
-    push_right_cell(&mut text, 6, value.as_str().as_bytes());
+    push_right_cell(&mut text, width, value.as_str().as_bytes());
     push_right_cell(&mut text, 6, percent.as_str().as_bytes());
     text
 }
 
 /// The IMPs.
 #[tactic(auto, unfolding(crate::specs::Totals::value_cells))]
-fn sum_cells(ranked: &Ranked) -> PageText
-    ensures cells { result.items ≡ value_cells Imps ranked.now }
+fn sum_cells(width: usize, ranked: &Ranked) -> PageText
+    requires { width ≤ 7 }
+    ensures cells { result.items ≡ value_cells width Imps ranked.now }
     ensures short { array_vec_len result ≤ 300 }
 {
     let value = signed_text(i64::from(ranked.value));
     let mut text = PageText::new();
-    push_right_cell(&mut text, 6, value.as_str().as_bytes());
+    push_right_cell(&mut text, width, value.as_str().as_bytes());
     text
 }
 
-/// What a pair gained.
-pub fn value_cells(scoring: Scoring, ranked: &Ranked) -> PageText
-    ensures cells { result.items ≡ value_cells scoring ranked.now }
+/// What a pair gained: matchpoints or IMPs in a column of that width, and the percentage of matchpoints.
+pub fn value_cells(width: usize, scoring: Scoring, ranked: &Ranked) -> PageText
+    requires { width ≤ 7 }
+    ensures cells { result.items ≡ value_cells width scoring ranked.now }
     ensures short { array_vec_len result ≤ 300 }
 {
     match scoring {
-        Scoring::MatchPoints => share_cells(ranked),
-        Scoring::Imps => sum_cells(ranked),
+        Scoring::MatchPoints => share_cells(width, ranked),
+        Scoring::Imps => sum_cells(width, ranked),
     }
 }
 
@@ -138,7 +141,7 @@ fn total_row(
     ensures { result.items ≡ total_row two scoring (map pair_of pairs.now) field ranked.now }
 {
     let mut text = place_cells(two, field, ranked);
-    push_bytes(&mut text, value_cells(scoring, ranked).as_slice());
+    push_bytes(&mut text, value_cells(6, scoring, ranked).as_slice());
     push_bytes(&mut text, names_cell(pairs, ranked.pair).as_slice());
     text
 }
