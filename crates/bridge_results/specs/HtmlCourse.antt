@@ -126,10 +126,10 @@ play_part costs play = option_map_or (play_html costs) play []
 
 -- ---- what opens
 
--- a pair's number and its names, behind what stands before them
+-- a pair's number and its names, which no text beside them is turned by, behind what stands before them
 abbrev pub pair_behind : List ℕ → Names → List Pair → ℕ → List ℕ
 pair_behind before names pairs pair =
-    ((before ++ html_text Words (decimal pair)) ++ codes " ") ++ html_text Words (shown_pair names pairs pair)
+    (((before ++ html_text Words (decimal pair)) ++ codes " <bdi>") ++ html_text Words (shown_pair names pairs pair)) ++ codes "</bdi>"
 
 -- the round and the table
 abbrev pub meeting_words : TablePlay → List ℕ

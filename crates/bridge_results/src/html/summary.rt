@@ -15,7 +15,7 @@ use line_text::{number_text, write_text};
 use page_layout::{Content, Format, PageText, push_bytes, push_html, push_paragraph};
 use std::io::{Error, Write};
 
-/// A pair's number and its names, behind what stands before them.
+/// A pair's number and its names, behind what stands before them. Names that are read from right to left leave the rest in its place.
 fn pair_behind(
     before: &[u8],
     names: Option<&[PairNames]>,
@@ -30,8 +30,9 @@ fn pair_behind(
     let mut text = PageText::new();
     push_bytes(&mut text, before);
     push_html(&mut text, Content::Words, number.as_str().as_bytes());
-    push_bytes(&mut text, b" ");
+    push_bytes(&mut text, b" <bdi>");
     push_html(&mut text, Content::Words, shown.as_str().as_bytes());
+    push_bytes(&mut text, b"</bdi>");
     text
 }
 

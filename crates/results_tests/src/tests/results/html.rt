@@ -50,7 +50,7 @@ fn auctions_and_plays(rt: HostRuntime) {
     let page = page_of(&rt, rt.alloc(), MATCHPOINTS, Format::Html);
     static PARTS: [&str; 4] = [
         concat!(
-            "<summary>1 Ann and Bob, 4 Gus and Hal: 4<span class=\"h\">&hearts;</span>= N</summary>\n<p>Round 1, table 1</p>\n",
+            "<summary>1 <bdi>Ann and Bob</bdi>, 4 <bdi>Gus and Hal</bdi>: 4<span class=\"h\">&hearts;</span>= N</summary>\n<p>Round 1, table 1</p>\n",
             "<table class=\"auction\" id=\"play-1-1-1\">\n<caption>Auction</caption>\n<thead><tr><th scope=\"col\">N</th>"
         ),
         "</tr></thead>\n<tr><td>4<span class=\"h\">&hearts;</span></td><td>Pass</td><td>Pass</td><td>Pass</td></tr>\n</table>\n<table class=\"tricks\">",
