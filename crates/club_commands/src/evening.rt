@@ -138,13 +138,12 @@ fn hold_evening<S: Machine, R: Read, W: Write>(
     ensures { HoldsEvening texts words.now standing (stream R.remaining input.old input.new)
         (stream W.contents output.old output.new) result }
 {
-    match standing {
-        Ok(Standing::Held) => show_evening(rt, alloc, texts, words, input, output),
-        Ok(Standing::Free) => {
+    match standing? {
+        Standing::Held => show_evening(rt, alloc, texts, words, input, output),
+        Standing::Free => {
             make_and_keep(rt, alloc, words, input, output)?;
             show_evening(rt, alloc, texts, words, input, output)
         }
-        Err(fault) => Err(fault),
     }
 }
 

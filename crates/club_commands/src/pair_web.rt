@@ -143,14 +143,12 @@ fn show_pair_heard<N: Host, W: Write, K: Seconds>(
         pages.old.server pages.new.server (stream W.contents output.old output.new) result) }
     ensures unheard { IfErr found (λ refused. IsNothingShown (λ fault. fault ≡ refused) (stream W.contents output.old output.new) result) }
 {
-    match found {
-        Err(fault) => Err(fault),
-        Ok(listener) => match RandomState::new(rt) {
-            Err(_) => Err(RunFault::System(SystemFault::Random)),
-            Ok(keys) => show_said(
-                rt, alloc, keys, &listener, minutes, judged, line, pages, output,
-            ),
-        },
+    let listener = found?;
+    match RandomState::new(rt) {
+        Err(_) => Err(RunFault::System(SystemFault::Random)),
+        Ok(keys) => show_said(
+            rt, alloc, keys, &listener, minutes, judged, line, pages, output,
+        ),
     }
 }
 

@@ -34,10 +34,11 @@ pub fn read_list(text: &[u8]) -> Result<Names, EveningFault>
 fn fitting(found: Result<Names, EveningFault>, pairs: usize) -> Result<Names, EveningFault>
     ensures { FitsPairs pairs (list_seen found) (list_seen result) }
 {
-    match found {
-        Ok(names) if names.len() == pairs => Ok(names),
-        Ok(_) => Err(EveningFault::OtherPairs),
-        Err(fault) => Err(fault),
+    let names = found?;
+    if names.len() == pairs {
+        Ok(names)
+    } else {
+        Err(EveningFault::OtherPairs)
     }
 }
 

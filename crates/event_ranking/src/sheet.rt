@@ -18,8 +18,8 @@ use bridge_ranking::Field;
 use bridge_session::Session;
 use line_text::write_text;
 use page_layout::{
-    Format, Level, PageText, Section, push_caption, push_heading, push_section_end, push_section_start,
-    push_table_end, push_table_start,
+    Format, Level, PageText, Section, push_caption, push_heading, push_section_end,
+    push_section_start, push_table_end, push_table_start,
 };
 use std::io::{Error, Write};
 

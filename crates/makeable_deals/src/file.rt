@@ -106,10 +106,8 @@ pub fn makeable_of_reader<R: Read, W: Write>(
     ensures { OfReader (Makes (stream W.contents output.old output.new) result form) (stream R.remaining reader.old reader.new) }
 {
     let mut text = Vec::new(alloc);
-    match read_text(reader, &mut text) {
-        Ok(()) => makeable_of_text(alloc, form, progress, text.as_slice(), output),
-        Err(fault) => Err(fault),
-    }
+    read_text(reader, &mut text)?;
+    makeable_of_text(alloc, form, progress, text.as_slice(), output)
 }
 
 /// The same of a file, where one was found; otherwise the fault is that of a read. What was found is handed in, since only so a

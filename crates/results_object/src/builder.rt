@@ -45,10 +45,7 @@ impl ObjectBuilder {
     pub fn build(self) -> Result<Value, AllocError>
         ensures { (members : Members) → HasMembers members self → IsValue (object members) result }
     {
-        match self.members {
-            Ok(members) => Ok(Value::Object(members)),
-            Err(refused) => Err(refused),
-        }
+        Ok(Value::Object(self.members?))
     }
 }
 

@@ -78,11 +78,12 @@ pub fn result_value(alloc: Global, play: &TablePlay) -> Result<Value, AllocError
 pub fn gain_of(comparison: Option<Comparison>, ns: bool) -> Option<i32>
     ensures { result ≡ gain_of ns comparison }
 {
-    match comparison {
-        Some(compared) if ns => Some(compared.ns_gain),
-        Some(compared) => Some(compared.ew_gain),
-        None => None,
-    }
+    let compared = comparison?;
+    Some(if ns {
+        compared.ns_gain
+    } else {
+        compared.ew_gain
+    })
 }
 
 /// The same in hundredths of a per cent of what was available, by matchpoints.

@@ -38,10 +38,7 @@ fn write_optimum<W: Write>(
 pub fn makeable_on(boards: &[Option<Makeable>], board: BoardNumber) -> Option<Makeable>
     ensures { result ≡ makeable_on boards.now board }
 {
-    match boards.get(usize::from(board.number() - 1)) {
-        Some(found) => *found,
-        None => None,
-    }
+    *boards.get(usize::from(board.number() - 1))?
 }
 
 /// Writes what could be made on a board, if it is known.

@@ -109,10 +109,7 @@ fn claims_of(kept: &Record) -> u8
 fn claim_of(kept: &Record) -> Option<Claim>
     ensures { result ≡ (plain_of kept.now).claim }
 {
-    match &kept.play {
-        Some(play) => play.claim(),
-        None => None,
-    }
+    kept.play.as_ref()?.claim()
 }
 
 /// Whether there is a claim, and all have agreed whom it asks.

@@ -20,10 +20,7 @@ use std::io::{Error, Write};
 pub fn makeable_on(analysis: &[Option<Makeable>], board: BoardNumber) -> Option<Makeable>
     ensures { result ≡ makeable_on analysis.now board }
 {
-    match analysis.get(usize::from(board.number() - 1)) {
-        Some(found) => *found,
-        None => None,
-    }
+    *analysis.get(usize::from(board.number() - 1))?
 }
 
 /// So many tricks, where they are seven or more, and otherwise a dash.
