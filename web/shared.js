@@ -424,7 +424,10 @@ at("leave").onclick = () => {
   const again = isAsked();
   askedAt = again ? -ASKED : Date.now();
   sayLeave();
-  if (again) leave();
+  if (again) {
+    leave();
+    at("key").focus();
+  }
 };
 window.addEventListener("online", () => look());
 window.addEventListener("offline", unreachable);

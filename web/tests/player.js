@@ -103,7 +103,7 @@ run({
     assert.deepStrictEqual([...page.kept], [["key", KEY]]);
     assert.deepStrictEqual(await page.click("leave"), []);
     assert.deepStrictEqual([...page.kept], []);
-    assert.ok(page.at("key") && !page.named("Auction"));
+    assert.ok(page.document.activeElement === page.at("key") && !page.named("Auction"));
   },
 
   "an answer that comes after Leave is not shown": async () => {
