@@ -86,7 +86,6 @@ section_words section = (codes "section " ++ section_text section) ++ codes ": "
 abbrev pub difference_words : Difference → List ℕ
 difference_words difference.Scoring = codes "other scoring"
 difference_words difference.Boards = codes "other boards a set"
-difference_words difference.Sets = codes "other sets"
 difference_words (difference.Deal board) = codes "other deal of board " ++ decimal board
 
 -- the line where a section is not of one field with an earlier one

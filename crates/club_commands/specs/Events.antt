@@ -99,7 +99,7 @@ abbrev pub OverField : EventAsked → List SessionValue → Stream → Ended →
 OverField asked sections output ended = (IsField sections × TellsEvent asked sections output ended)
     ⊎ ((refused : SectionsRefused) × IsFirstRefusal sections refused × (ended ≡ Err (Field (other_section refused))) × IsUntouched output)
 
--- a session was read of each of so many disks, in their order
+-- so many sessions were read, each of a disk; of which one, and in which order, no clause can say
 abbrev pub AreRead : ℕ → List SessionValue → Type 0
 AreRead count sections = (length sections ≡ count) × All IsRead sections
 

@@ -201,7 +201,6 @@ fn difference_words(difference: Difference) -> FaultLine
     match difference {
         Difference::Scoring => line_of("other scoring"),
         Difference::Boards => line_of("other boards a set"),
-        Difference::Sets => line_of("other sets"),
         Difference::Deal(board) => deal_words(board),
     }
 }

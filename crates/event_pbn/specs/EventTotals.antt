@@ -23,8 +23,8 @@ total_columns Imps = codes "[TotalScoreTable \"Section\\2L;Direction\\1L;Rank\\3
 abbrev pub unplaced : SectionRanked → Ranked
 unplaced ranked = record { place = 0; pair = ranked.pair; value = ranked.value; available = ranked.available }
 
--- the section's letters; N or E where there are two fields, as one section alone has it in the place of its section; the place among
--- all pairs of the field, and the pair
+-- the section's letters; N for the first field and E for the second, or a dash where no section has two; the place among all pairs of
+-- the field, and the pair
 unfoldable pub place_cells : Bool → Field → SectionRanked → List ℕ
 place_cells two field ranked =
     ((section_cell ranked.section ++ section_text two field) ++ right_cell 3 (decimal ranked.place)) ++ right_cell 2 (decimal ranked.pair)

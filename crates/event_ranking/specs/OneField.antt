@@ -3,7 +3,7 @@ use Rattle.std.specs.Prelude.{◌≡◌, ◌<◌, ⊤, ℕ, List, length, take, 
 use Rattle.bridge_cards.specs.Board.{IsBoard}
 use Rattle.session_rules.specs.State.{SessionValue, Deals, deal_on}
 use Rattle.event_ranking.specs.declared.field.Difference.{Difference}
-use Rattle.event_ranking.specs.declared.field.Difference.TheVariants.{Scoring, Boards, Sets, Deal}
+use Rattle.event_ranking.specs.declared.field.Difference.TheVariants.{Scoring, Boards, Deal}
 use Rattle.event_ranking.specs.declared.field.SectionsRefused.{SectionsRefused}
 
 -- scores are compared in one way
@@ -13,10 +13,6 @@ HaveOneScoring s t = s.configuration.scoring ≡ t.configuration.scoring
 -- a set has as many boards
 abbrev pub HaveOneSize : SessionValue → SessionValue → Type 0
 HaveOneSize s t = s.configuration.boards ≡ t.configuration.boards
-
--- there are as many sets
-abbrev pub HaveOneCount : SessionValue → SessionValue → Type 0
-HaveOneCount s t = s.configuration.movement.shape.sets ≡ t.configuration.movement.shape.sets
 
 -- the same where both are there
 abbrev pub AreSameIfBoth : Option (List ℕ) → Option (List ℕ) → Type 0
@@ -32,11 +28,10 @@ HaveOneDeal ours theirs board = AreSameIfBoth (deal_on ours board) (deal_on thei
 abbrev pub HaveOneDealEach : Deals → Deals → Type 0
 HaveOneDealEach ours theirs = (board : ℕ) → IsBoard board → HaveOneDeal ours theirs board
 
--- two sessions can be compared: scoring, boards a set, sets and deals are the same
+-- two sessions can be compared: scoring, boards a set, and the deals that both have are the same
 pub record CanCompare (s t : SessionValue) : Type 0 where
   pub scoring : HaveOneScoring s t
   pub boards : HaveOneSize s t
-  pub sets : HaveOneCount s t
   pub deals : HaveOneDealEach s.deals t.deals
 
 -- The sessions are one field: any two of them can be compared.
@@ -49,13 +44,12 @@ pub record IsFirstOtherDeal (ours theirs : Deals) (board : ℕ) : Type 0 where
   pub other : ¬ HaveOneDeal ours theirs board
   pub first : (earlier : ℕ) → IsBoard earlier → earlier < board → HaveOneDeal ours theirs earlier
 
--- the first thing in which two sessions differ: scoring, boards, sets, or the deal of the first board
+-- the first thing in which two sessions differ: scoring, boards a set, or the deal of the first board
 abbrev pub IsFirstDifference : SessionValue → SessionValue → Difference → Type 0
 IsFirstDifference s t Scoring = ¬ HaveOneScoring s t
 IsFirstDifference s t Boards = HaveOneScoring s t × ¬ HaveOneSize s t
-IsFirstDifference s t Sets = HaveOneScoring s t × HaveOneSize s t × ¬ HaveOneCount s t
 IsFirstDifference s t (Deal board) =
-    HaveOneScoring s t × HaveOneSize s t × HaveOneCount s t × IsFirstOtherDeal s.deals t.deals board
+    HaveOneScoring s t × HaveOneSize s t × IsFirstOtherDeal s.deals t.deals board
 
 -- the section at an index can be compared with so many from the first on
 abbrev pub CanCompareWith : List SessionValue → ℕ → ℕ → Type 0

@@ -14,8 +14,6 @@ pub enum Difference {
     Scoring,
     /// How many boards a set has.
     Boards,
-    /// How many sets there are.
-    Sets,
     /// The deal of a board that both have dealt: the first such board.
     Deal(BoardNumber),
 }
@@ -27,7 +25,7 @@ pub struct SectionsRefused {
     pub index: usize,
     /// The index of the first section from which it differs.
     pub earlier: usize,
-    /// In what they differ: of scoring, boards, sets and deals the first.
+    /// In what they differ: of scoring, boards a set and deals the first.
     pub difference: Difference,
 }
 
@@ -66,13 +64,7 @@ fn first_difference(ours: &Session, theirs: &Session) -> Option<Difference>
     if our.boards != their.boards {
         return Some(Difference::Boards);
     }
-    if our.movement.shape().sets != their.movement.shape().sets {
-        return Some(Difference::Sets);
-    }
-    match first_other_deal(ours, theirs) {
-        Some(board) => Some(Difference::Deal(board)),
-        None => None,
-    }
+    Some(Difference::Deal(first_other_deal(ours, theirs)?))
 }
 
 /// Judges the section at an index by those before it.
@@ -93,8 +85,8 @@ fn judge(sections: &[Session], index: usize) -> Result<(), SectionsRefused>
     Ok(())
 }
 
-/// Whether sessions are one field, in their order: any two have the same scoring, boards a set, sets, and deal of each board
-/// that both have dealt. Refused is the first section that differs from one before it.
+/// Whether sessions are one field, in their order: any two have the same scoring, boards a set, and deal of each board that
+/// both have dealt. Refused is the first section that differs from one before it.
 pub fn field_of(sections: &[Session]) -> Result<(), SectionsRefused>
     ensures field { OnOk result (IsField sections.now) }
     ensures refused { IfErr result (IsFirstRefusal sections.now) }

@@ -20,7 +20,7 @@ static GAMES: [&str; 4] = [
     "\"]\nA   2  3  3  5 4H    N 11 -     450    7.0    1.0\nB   2  3  3  5 4H    N 11 -     450    7.0    1.0
 A   1  1  1  4 4H    N 10 HA    420    3.0    5.0\nB   1  1  1  4 4H    N 10 HA    420    3.0    5.0
 A   3  2  2  6 4SX   E  8 -     300    0.0    8.0\n[TotalScoreTable \"Section\\2L;Direction\\1L;Rank\\3R;PairId\\2R;",
-    "\"]\nB  N   1  2   14.0  87.50 \"Cat and Dan\"\nA  N   2  2   14.0  58.33 \"Cat and Dan\"\n",
+    "\"]\nB  N   1  2    14.0  87.50 \"Cat and Dan\"\nA  N   2  2    14.0  58.33 \"Cat and Dan\"\n",
 ];
 
 /// The first play of board 1, the event and the best pair, and the first pair of the first section.
