@@ -16,7 +16,7 @@ use Rattle.web_loop.specs.Turns.{LeadsTo}
 use Rattle.web_requests.specs.Route.{route_for}
 use Rattle.web_requests.specs.declared.route.Route.{Route}
 use Rattle.web_requests.specs.declared.route.Route.TheVariants.{Page, TextsScript, SharedScript, TableScript, BoardsScript, DeskScript, DirectorScript, Style, Lines, Correct, Place, Tables, Boards, Results, Desk, Wait, Names, Refused}
-use Rattle.table_pages.specs.Answered.{AnswersLines, is_settled, place_told, tables_told, wait_told, boards_told, desks_told}
+use Rattle.table_pages.specs.Answered.{AnswersLines, has_failed, is_settled, place_told, tables_told, wait_told, boards_told, desks_told}
 use Rattle.page_replies.specs.ToldResults.{results_told}
 use Rattle.table_pages.specs.declared.host_names.HostNames.{HostNames}
 use Rattle.table_pages.specs.declared.page_texts.PageTexts.{PageTexts}
@@ -47,7 +47,7 @@ module _ {D : Type 0} (disk : Disk D) where
 
   -- over one request
   one : (texts : PageTexts) (people : List ℕ) (route : Route) (old : StoreValue D SessionValue Action) (body : List ℕ) (response : Response) (new : StoreValue D SessionValue Action)
-      → Responds (AnswersLines disk) place_told tables_told wait_told boards_told desks_told results_told texts people route old body response new → FailsWithDisk disk old new
+      → Responds (AnswersLines disk) has_failed place_told tables_told wait_told boards_told desks_told results_told texts people route old body response new → FailsWithDisk disk old new
   one texts people Page old body response new x = same_store disk old new x.1
   one texts people TextsScript old body response new x = same_store disk old new x.1
   one texts people SharedScript old body response new x = same_store disk old new x.1
@@ -70,14 +70,14 @@ module _ {D : Type 0} (disk : Disk D) where
   module _ (site : Site) where
     -- over requests, one after another
     all : (calls : List Call) (old new : StoreValue D SessionValue Action)
-        → Chain (Answering (AnswersLines disk) place_told tables_told wait_told boards_told desks_told results_told site) old calls new → FailsWithDisk disk old new
+        → Chain (Answering (AnswersLines disk) has_failed place_told tables_told wait_told boards_told desks_told results_told site) old calls new → FailsWithDisk disk old new
     all [] old new same = same_store disk old new same
     all (c ∷ calls) old new x =
         fails_on disk old x.0 new (one site.texts site.people (route_for site.host site.alias (head_of c.0)) old (body_of c.0) c.1 x.0 x.1) (all calls x.0 new x.2)
 
     -- pages were shown until an end, and the store works
     shows_pages : (start store : StoreValue D SessionValue Action) (ended : Ended)
-        → LeadsTo (Answering (AnswersLines disk) place_told tables_told wait_told boards_told desks_told results_told site) start store
+        → LeadsTo (Answering (AnswersLines disk) has_failed place_told tables_told wait_told boards_told desks_told results_told site) start store
         → store.failed ≡ false → (ended ≡ Ok tt) ⊎ (ended ≡ Err (System Clock)) → ShowsPages disk site start store ended
     shows_pages start store ended requests works way = record {
       requests = requests;
@@ -86,7 +86,7 @@ module _ {D : Type 0} (disk : Disk D) where
 
     -- or the store failed
     fails_pages : (start store : StoreValue D SessionValue Action) (ended : Ended)
-        → LeadsTo (Answering (AnswersLines disk) place_told tables_told wait_told boards_told desks_told results_told site) start store
+        → LeadsTo (Answering (AnswersLines disk) has_failed place_told tables_told wait_told boards_told desks_told results_told site) start store
         → start.failed ≡ false → store.failed ≡ true → ended ≡ Err (Store DiskFault) → ShowsPages disk site start store ended
     fails_pages start store ended requests worked failed is = record {
       requests = requests;
@@ -95,7 +95,7 @@ module _ {D : Type 0} (disk : Disk D) where
 
     -- pages were shown until the store failed, or the clock told an end or nothing
     pub pages_ended : {E : Type 0} (failed : Bool) (shown : Result (Unit {0}) E) (ended : Ended) (start store : StoreValue D SessionValue Action)
-        → LeadsTo (Answering (AnswersLines disk) place_told tables_told wait_told boards_told desks_told results_told site) start store
+        → LeadsTo (Answering (AnswersLines disk) has_failed place_told tables_told wait_told boards_told desks_told results_told site) start store
         → start.failed ≡ false → store.failed ≡ failed → ended ≡ ended_by failed shown → ShowsPages disk site start store ended
     pages_ended true shown ended start store requests worked failed is = fails_pages start store ended requests worked failed is
     pages_ended false (Ok _) ended start store requests worked failed is = shows_pages start store ended requests failed (inl is)

@@ -76,6 +76,10 @@ abbrev pub pair_ended_by : Bool → Option PairStanding → Bool → Bool → En
 pair_ended_by true standing disk_first has_clock = Err (Store DiskFault)
 pair_ended_by false standing disk_first has_clock = ended_standing standing disk_first has_clock
 
+-- nothing more may be told of a pair
+abbrev pub has_stopped : {D E : Type 0} → ServerOver D E → Bool
+has_stopped pair = pair.stopped
+
 -- over the session of a side that works: what is told to the player whose key these bytes are, of his place
 abbrev pub place_shown : {D E : Type 0} → ServerOver D E → List ℕ → List ℕ
 place_shown pair key = place_text (session_of (value_of pair)) key
@@ -109,7 +113,7 @@ module _ {D E : Type 0} (first : Disk D) (second : Disk E) where
   -- requests were answered over a pair, one after another, each by the session of a side that works
   abbrev pub LeadsPair : Site → ServerOver D E → ServerOver D E → Type 0
   LeadsPair site start last =
-      LeadsTo (Answering AnswersServer place_shown tables_shown wait_shown boards_shown desks_shown results_shown site) start last
+      LeadsTo (Answering AnswersServer has_stopped place_shown tables_shown wait_shown boards_shown desks_shown results_shown site) start last
 
   -- and the showing ended by which disks were still kept then
   pub record ShowsPair (site : Site) (disk_first : Bool) (start last : ServerOver D E) (ended : Ended) : Type 0 where

@@ -5,7 +5,7 @@ use Rattle.std.specs.Net.Addr.{ipv4_octets}
 use Rattle.std.specs.Net.Grammar.{IsIpv4Text}
 use Rattle.std.specs.declared.net.ipv4_addr.Ipv4Addr.{Ipv4Addr}
 use Rattle.web_loop.specs.Turns.{LeadsTo}
-use Rattle.table_pages.specs.Answered.{AnswersLines, place_told, tables_told, wait_told, boards_told, desks_told}
+use Rattle.table_pages.specs.Answered.{AnswersLines, has_failed, place_told, tables_told, wait_told, boards_told, desks_told}
 use Rattle.page_replies.specs.ToldResults.{results_told}
 use Rattle.table_pages.specs.HostNames.{with_port}
 use Rattle.table_pages.specs.Responses.{Answering}
@@ -59,7 +59,7 @@ ended_by false (Err _) = Err (System Clock)
 
 -- requests were answered over a store, one after another, until the time was over or the clock could not be read
 pub record ShowsPages {D : Type 0} (disk : Disk D) (site : Site) (start store : StoreOn D) (ended : Ended) : Type 0 where
-  pub requests : LeadsTo (Answering (AnswersLines disk) place_told tables_told wait_told boards_told desks_told results_told site) start store
+  pub requests : LeadsTo (Answering (AnswersLines disk) has_failed place_told tables_told wait_told boards_told desks_told results_told site) start store
   pub ends : EndsOver disk (λ way. (way ≡ Ok tt) ⊎ (way ≡ Err (System Clock))) start store ended
 
 -- why no pages are shown: what is given is no address, or memory or what is wanted of the system is not given

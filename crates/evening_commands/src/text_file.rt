@@ -42,10 +42,8 @@ pub fn read_text<R: Read>(reader: &mut R, text: &mut Text) -> Result<(), NoRead>
     ensures { OnOk result (IsTextRead (stream R.remaining reader.old reader.new) text.new.items) }
 {
     while text.len() < FILE_BYTES {
-        match read_on(reader, text) {
-            Ok(true) => {}
-            Ok(false) => return Ok(()),
-            Err(fault) => return Err(fault),
+        if !read_on(reader, text)? {
+            return Ok(());
         }
     }
     Ok(())

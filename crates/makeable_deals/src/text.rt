@@ -35,10 +35,8 @@ pub fn read_text<R: Read>(reader: &mut R, text: &mut Vec<u8>) -> Result<(), Make
     ensures none { IfErr result IsNoText }
 {
     while text.len() < TEXT_BYTES {
-        match read_on(reader, text) {
-            Ok(true) => {}
-            Ok(false) => return Ok(()),
-            Err(fault) => return Err(fault),
+        if !read_on(reader, text)? {
+            return Ok(());
         }
     }
     Ok(())

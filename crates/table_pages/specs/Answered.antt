@@ -33,6 +33,10 @@ is_settled true pending = true
 is_settled false [] = true
 is_settled false (action ∷ pending) = false
 
+-- a store has failed
+abbrev pub has_failed : {D : Type 0} → StoreValue D SessionValue Action → Bool
+has_failed store = store.failed
+
 -- over the session of a store: what is told to the player whose key these bytes are, of his place
 abbrev pub place_told : {D : Type 0} → StoreValue D SessionValue Action → List ℕ → List ℕ
 place_told store key = place_text store.state key

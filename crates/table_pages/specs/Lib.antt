@@ -11,3 +11,4 @@ pub mod Seconds
 pub mod Waits
 pub mod FirstLine
 pub mod Keeping
+pub mod Failing

@@ -15,6 +15,7 @@ use Rattle.line_replies.specs.ReplyTexts.{short_text}
 use Rattle.table_server.specs.declared.line_set.LineSet.{LineSet}
 use Rattle.table_server.specs.declared.line_set.LineSet.TheVariants.{Protocol, Corrections}
 use Rattle.table_pages.specs.declared.page_texts.PageTexts.{PageTexts}
+use Rattle.table_pages.specs.Failing.{TellsState}
 use Rattle.table_pages.specs.People.{names_text}
 use Rattle.table_pages.specs.Refused.{TellsRefused}
 use Rattle.table_pages.specs.Site.{Site}
@@ -32,12 +33,12 @@ module _ {T : Type 0} (answers : T → List ℕ → Option (List ℕ) → T → 
   TellsShort true old body response new = TellsLines old body response new
   TellsShort false old body response new = IsRefused TooLong response × (new ≡ old)
 
--- over a server of lines of either set
-module _ {T : Type 0} (answers : LineSet → T → List ℕ → Option (List ℕ) → T → Type 0) where
+-- over a server of lines of either set, which may have failed
+module _ {T : Type 0} (answers : LineSet → T → List ℕ → Option (List ℕ) → T → Type 0) (failed : T → Bool) where
   module _ (places tables : T → List ℕ → List ℕ) (waits : T → List ℕ → ShortReply) (boards : T → Bool → List ℕ → List ℕ) (desks : T → DeskType → ℕ → List ℕ → List ℕ) (results : T → List ℕ → List ℕ → Type 0) where
     module _ (texts : PageTexts) (people : List ℕ) where
       -- the response to a request on this route: the text of the page, script or style that the pages were made with, the
-      -- replies to its lines, or what is told to the holder of the key that it has
+      -- replies to its lines, or what is told to the holder of the key that it has, while the server has not failed
       abbrev pub Responds : Route → T → List ℕ → Response → T → Type 0
       Responds Page old body response new = IsText kind.Page texts.page.now response × (new ≡ old)
       Responds TextsScript old body response new = IsText kind.Script texts.texts_script.now response × (new ≡ old)
@@ -49,12 +50,12 @@ module _ {T : Type 0} (answers : LineSet → T → List ℕ → Option (List ℕ
       Responds Style old body response new = IsText kind.Style texts.style.now response × (new ≡ old)
       Responds Lines old body response new = TellsShort (answers Protocol) (nat_lt (length body) 65536) old body response new
       Responds Correct old body response new = TellsShort (answers Corrections) (nat_lt (length body) 65536) old body response new
-      Responds Place old body response new = IsText kind.Lines (places old body) response × (new ≡ old)
-      Responds Tables old body response new = IsText kind.Lines (tables old body) response × (new ≡ old)
-      Responds Boards old body response new = ((is_open : Bool) × IsText kind.Lines (boards old is_open body) response) × (new ≡ old)
-      Responds Results old body response new = ((text : List ℕ) × results old body text × IsText kind.Lines text response) × (new ≡ old)
+      Responds Place old body response new = TellsState (failed old) (places old body) response × (new ≡ old)
+      Responds Tables old body response new = TellsState (failed old) (tables old body) response × (new ≡ old)
+      Responds Boards old body response new = ((is_open : Bool) × TellsState (failed old) (boards old is_open body) response) × (new ≡ old)
+      Responds Results old body response new = ((text : List ℕ) × results old body text × TellsState (failed old) text response) × (new ≡ old)
       Responds Desk old body response new =
-          ((desk : DeskType) × (at : ℕ) × (IsText kind.Lines (desks old desk at body) response ⊎ IsUnavailable response)) × (new ≡ old)
+          ((desk : DeskType) × (at : ℕ) × (TellsState (failed old) (desks old desk at body) response ⊎ IsUnavailable response)) × (new ≡ old)
       Responds Wait old body response new = IsText kind.Lines (short_text (waits old body)) response × (new ≡ old)
       Responds Names old body response new = IsText kind.Lines (names_text people (waits old body)) response × (new ≡ old)
       Responds (Refused why) old body response new = TellsRefused texts why response × (new ≡ old)

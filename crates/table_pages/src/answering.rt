@@ -1,7 +1,7 @@
 //! Lines that came in one request, answered over a store.
 ghost use Rattle.std.specs.Prelude.{◌≡◌, ◌<◌, [], false, length, option_map, IfSome};
 ghost use Rattle.table_server.specs.Faulted.{FailsWithDisk};
-ghost use Rattle.table_pages.specs.Answered.{AnswersBody, AnswersLines, CountsKeys, is_settled, wrong_key_told, wrong_key_at_boards, wrong_key_at_desk, place_told, tables_told, boards_told, opens_told, kept_on, desks_told, stands_told, wait_told, IsStill};
+ghost use Rattle.table_pages.specs.Answered.{AnswersBody, AnswersLines, CountsKeys, has_failed, is_settled, wrong_key_told, wrong_key_at_boards, wrong_key_at_desk, place_told, tables_told, boards_told, opens_told, kept_on, desks_told, stands_told, wait_told, IsStill};
 ghost use Rattle.page_replies.specs.ToldResults.{results_told};
 
 use crate::line_server::{LineServer, Replies};
@@ -58,7 +58,7 @@ pub fn kept_on<D: SectorDisk + Drop>(store: &Store<D, Session>) -> KeptOn
 impl<D: SectorDisk + Drop> LineServer for Store<D, Session> {
     ghost is_ready = { λ store. is_settled store.failed store.pending };
 
-    ghost failed = { λ store. store.failed };
+    ghost failed = { λ store. has_failed store };
 
     ghost answers = { λ set old body text new. AnswersLines D.disk set old body text new };
 

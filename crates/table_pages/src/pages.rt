@@ -4,6 +4,7 @@ ghost use Rattle.http_server.specs.Response.{IsBlank};
 ghost use Rattle.http.specs.Request.{head_of};
 ghost use Rattle.web_requests.specs.Filled.{IsText, IsUnavailable};
 ghost use Rattle.web_requests.specs.Route.{route_for};
+ghost use Rattle.table_pages.specs.Failing.{TellsState};
 ghost use Rattle.table_pages.specs.WrongKeys.{with_key, with_more, CountsLines};
 
 use crate::host_names::HostNames;
@@ -145,7 +146,7 @@ impl<T: LineServer, K: Seconds> TablePages<T, K> {
     /// Answers a key with what its player is told of his place.
     fn put_place(&mut self, key: &[u8], response: &mut Response) -> Result<(), AllocError>
         requires { IsBlank response.old }
-        ensures told { OnOk result (IsText Kind.Lines (T.places self.old.server key.now) response.new) }
+        ensures told { OnOk result (TellsState (T.failed self.old.server) (T.places self.old.server key.now) response.new) }
         ensures counted { OnOk result (self.new.wrong ≡ with_key self.old.wrong (T.wrong_key self.old.server key.now)) }
         ensures server { self.new.server ≡ self.old.server }
         ensures fixed { (self.new.names ≡ self.old.names) × (self.new.texts ≡ self.old.texts) × (self.new.people ≡ self.old.people) × (self.new.wishes ≡ self.old.wishes) }
@@ -155,13 +156,13 @@ impl<T: LineServer, K: Seconds> TablePages<T, K> {
         let mut text = ReplyText::new();
         self.server.place(key, &mut text);
         let wrong = self.server.has_wrong_key(key);
-        self.put_told(response, text.as_str().as_bytes(), count_of(wrong))
+        self.put_state(response, text.as_str().as_bytes(), count_of(wrong))
     }
 
     /// Answers the director's key with what is told of all tables.
     fn put_tables(&mut self, key: &[u8], response: &mut Response) -> Result<(), AllocError>
         requires { IsBlank response.old }
-        ensures told { OnOk result (IsText Kind.Lines (T.tables self.old.server key.now) response.new) }
+        ensures told { OnOk result (TellsState (T.failed self.old.server) (T.tables self.old.server key.now) response.new) }
         ensures counted { OnOk result (self.new.wrong ≡ with_key self.old.wrong (T.wrong_key self.old.server key.now)) }
         ensures server { self.new.server ≡ self.old.server }
         ensures fixed { (self.new.names ≡ self.old.names) × (self.new.texts ≡ self.old.texts) × (self.new.people ≡ self.old.people) × (self.new.wishes ≡ self.old.wishes) }
@@ -171,7 +172,7 @@ impl<T: LineServer, K: Seconds> TablePages<T, K> {
         let mut text = ReplyText::new();
         self.server.tables(key, &mut text);
         let wrong = self.server.has_wrong_key(key);
-        self.put_told(response, text.as_str().as_bytes(), count_of(wrong))
+        self.put_state(response, text.as_str().as_bytes(), count_of(wrong))
     }
 
     /// Answers posted lines of that set. Where memory is refused once they were taken, the response says nothing.
@@ -223,6 +224,30 @@ impl<T: LineServer, K: Seconds> TablePages<T, K> {
         self.wrong = self.wrong.saturating_add(wrong_keys);
         Ok(())
     }
+
+    /// Fills a response with what is told of the session, and counts so many wrong keys. Once the server has failed the response
+    /// says nothing, since no disk may hold what would be told.
+    fn put_state(
+        &mut self,
+        response: &mut Response,
+        text: &[u8],
+        wrong_keys: u64,
+    ) -> Result<(), AllocError>
+        requires { IsBlank response.old }
+        ensures told { OnOk result (TellsState (T.failed self.old.server) text.now response.new) }
+        ensures counted { OnOk result (self.new.wrong ≡ with_more self.old.wrong wrong_keys) }
+        ensures server { self.new.server ≡ self.old.server }
+        ensures fixed { (self.new.names ≡ self.old.names) × (self.new.texts ≡ self.old.texts) × (self.new.people ≡ self.old.people) × (self.new.wishes ≡ self.old.wishes) }
+        ensures beside { (self.new.is_open ≡ self.old.is_open) × (self.new.desk ≡ self.old.desk) }
+        ensures err { OnErr result (self.new ≡ self.old) }
+    {
+        if !self.server.has_failed() {
+            return self.put_told(response, text, wrong_keys);
+        }
+        put_unavailable(response);
+        self.wrong = self.wrong.saturating_add(wrong_keys);
+        Ok(())
+    }
 }
 
 impl<T: LineServer, K: Seconds> Service for TablePages<T, K> {
@@ -238,12 +263,12 @@ impl<T: LineServer, K: Seconds> Service for TablePages<T, K> {
     ghost use Rattle.table_pages.specs.WrongKeys.{Counts};
 
     ghost answers = { λ old request response new.
-        Answering T.answers T.places T.tables T.waits T.boards T.desks T.results (site_of old.texts old.names old.people.items) old.server request response new.server
+        Answering T.answers T.failed T.places T.tables T.waits T.boards T.desks T.results (site_of old.texts old.names old.people.items) old.server request response new.server
         × (new.names ≡ old.names) × (new.texts ≡ old.texts)
         × Counts T.counts T.wrong_key T.wrong_at_boards T.wrong_at_desk (route_for (string_bytes old.names.host) (string_bytes old.names.alias) (head_of request))
         old.server (body_of request) old.wrong response new.wrong
-        × Opens T.boards T.opens (route_for (string_bytes old.names.host) (string_bytes old.names.alias) (head_of request)) old.server old.is_open (body_of request) response new.is_open
-        × Stands T.desks T.stands (K.shows old.clock) (route_for (string_bytes old.names.host) (string_bytes old.names.alias) (head_of request))
+        × Opens T.failed T.boards T.opens (route_for (string_bytes old.names.host) (string_bytes old.names.alias) (head_of request)) old.server old.is_open (body_of request) response new.is_open
+        × Stands T.failed T.desks T.stands (K.shows old.clock) (route_for (string_bytes old.names.host) (string_bytes old.names.alias) (head_of request))
         old.server old.desk (body_of request) response new.desk
         × Keeps (wish_of T.waits (route_for (string_bytes old.names.host) (string_bytes old.names.alias) (head_of request)) old.server (body_of request)) old.wishes new.wishes
         × (new.people ≡ old.people) };

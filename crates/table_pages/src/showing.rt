@@ -55,7 +55,7 @@ pub fn show_minutes<N: Net + Clock, T: LineServer, K: Seconds>(
 where
     N::Listener: AsRawFd,
     N::Stream: AsRawFd,
-    ensures { LeadsTo (Answering T.answers T.places T.tables T.waits T.boards T.desks T.results (site_of pages.old.texts pages.old.names pages.old.people.items)) pages.old.server pages.new.server }
+    ensures { LeadsTo (Answering T.answers T.failed T.places T.tables T.waits T.boards T.desks T.results (site_of pages.old.texts pages.old.names pages.old.people.items)) pages.old.server pages.new.server }
 {
     let mut clients = Clients::new(alloc, keys, limits(), Instant::now(rt)?);
     serve_minutes(rt, listener, &mut clients, pages, minutes)

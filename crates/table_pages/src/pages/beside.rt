@@ -1,7 +1,7 @@
 //! What is answered from beside the session, and from what is over.
 ghost use Rattle.std.specs.Prelude.{◌≡◌, ℕ, List, OnOk, OnErr, if◌then◌else◌};
 ghost use Rattle.http_server.specs.Response.{IsBlank};
-ghost use Rattle.web_requests.specs.Filled.{IsText};
+ghost use Rattle.table_pages.specs.Failing.{TellsState};
 ghost use Rattle.table_pages.specs.Stands.{AnswersDesk};
 ghost use Rattle.table_pages.specs.WrongKeys.{with_key, CountsLines};
 
@@ -10,7 +10,7 @@ use crate::line_server::{LineServer, Replies};
 use crate::seconds::Seconds;
 use http_server::Response;
 use std::alloc::AllocError;
-use web_requests::{Kind, put_unavailable};
+use web_requests::put_unavailable;
 
 impl<T: LineServer, K: Seconds> TablePages<T, K> {
     /// Answers what is posted to boards, and keeps whether players are told of other tables.
@@ -20,7 +20,7 @@ impl<T: LineServer, K: Seconds> TablePages<T, K> {
         response: &mut Response,
     ) -> Result<(), AllocError>
         requires { IsBlank response.old }
-        ensures told { OnOk result (IsText Kind.Lines (T.boards self.old.server self.old.is_open key.now) response.new) }
+        ensures told { OnOk result (TellsState (T.failed self.old.server) (T.boards self.old.server self.old.is_open key.now) response.new) }
         ensures counted { OnOk result (self.new.wrong ≡ with_key self.old.wrong (T.wrong_at_boards self.old.server key.now)) }
         ensures server { self.new.server ≡ self.old.server }
         ensures fixed { (self.new.names ≡ self.old.names) × (self.new.texts ≡ self.old.texts) × (self.new.people ≡ self.old.people) × (self.new.wishes ≡ self.old.wishes) × (self.new.desk ≡ self.old.desk) }
@@ -32,7 +32,7 @@ impl<T: LineServer, K: Seconds> TablePages<T, K> {
         };
         let is_open = self.opens(key);
         let wrong = self.server.has_wrong_key_at_boards(key);
-        self.put_told(response, text.as_slice(), count_of(wrong))?;
+        self.put_state(response, text.as_slice(), count_of(wrong))?;
         self.is_open = is_open;
         Ok(())
     }
@@ -44,7 +44,7 @@ impl<T: LineServer, K: Seconds> TablePages<T, K> {
         response: &mut Response,
     ) -> Result<(), AllocError>
         requires { IsBlank response.old }
-        ensures told { OnOk result ((text : List ℕ) × T.results self.old.server key.now text × IsText Kind.Lines text response.new) }
+        ensures told { OnOk result ((text : List ℕ) × T.results self.old.server key.now text × TellsState (T.failed self.old.server) text response.new) }
         ensures counted { OnOk result (self.new.wrong ≡ with_key self.old.wrong (T.wrong_key self.old.server key.now)) }
         ensures server { self.new.server ≡ self.old.server }
         ensures fixed { (self.new.names ≡ self.old.names) × (self.new.texts ≡ self.old.texts) × (self.new.people ≡ self.old.people) × (self.new.wishes ≡ self.old.wishes) }
@@ -55,13 +55,14 @@ impl<T: LineServer, K: Seconds> TablePages<T, K> {
             return Err(AllocError);
         };
         let wrong = self.server.has_wrong_key(key);
-        self.put_told(response, text.as_slice(), count_of(wrong))
+        self.put_state(response, text.as_slice(), count_of(wrong))
     }
 
-    /// Takes what is posted to the desk, and answers it. Where memory is refused once it was taken, the response says nothing.
+    /// Takes what is posted to the desk, and answers it. Where memory is refused once it was taken, or the
+    /// server has failed, the response says nothing.
     pub(super) fn put_desk(&mut self, body: &[u8], response: &mut Response)
         requires { IsBlank response.old }
-        ensures desk { AnswersDesk T.desks T.stands (K.shows self.old.clock) self.old.server self.old.desk body.now response.new self.new.desk }
+        ensures desk { AnswersDesk T.failed T.desks T.stands (K.shows self.old.clock) self.old.server self.old.desk body.now response.new self.new.desk }
         ensures counted { CountsLines (λ count. count ≡ (if T.wrong_at_desk self.old.server body.now then 1 else 0)) self.old.wrong response.new self.new.wrong }
         ensures server { self.new.server ≡ self.old.server }
         ensures fixed { (self.new.names ≡ self.old.names) × (self.new.texts ≡ self.old.texts) × (self.new.people ≡ self.old.people) × (self.new.wishes ≡ self.old.wishes) }
@@ -69,7 +70,11 @@ impl<T: LineServer, K: Seconds> TablePages<T, K> {
     {
         let wrong_keys = count_of(self.server.has_wrong_key_at_desk(body));
         let at = self.clock.seconds();
-        match self.server.desk(&mut self.desk, self.alloc, at, body) {
+        let told = self.server.desk(&mut self.desk, self.alloc, at, body);
+        if self.server.has_failed() {
+            return put_unavailable(response);
+        }
+        match told {
             Some(text) => self.put_replies(response, &Replies { text, wrong_keys }),
             None => put_unavailable(response),
         }

@@ -11,19 +11,19 @@ loop-reader-init g c =
 
 pub loop-reader-smaller : goal.loop-reader-smaller
 loop-reader-smaller g c =
-    omega (arith, c.in-Ok-true.ensures.read.more c.in-Ok-true.field-0-test, c.len.ensures.value, c.loop-reader-test.true)
+    omega (arith, c.in_ok-read_on.ensures.read.more c.if-not-branch.false, c.len.ensures.value, c.loop-reader-test.true)
 
 pub loop-reader-preserved : goal.loop-reader-preserved
 loop-reader-preserved g c =
     reads_on (g.R.Read.remaining c.args.reader.now) (g.R.Read.remaining c.loop-reader.reader) (g.R.Read.remaining c.read_on.new.reader)
-    c.loop-reader.text.items c.read_on.new.text.items c.in-Ok-true.field-0 c.loop-reader.invariant c.in-Ok-true.ensures.read
+    c.loop-reader.text.items c.read_on.new.text.items c.in_ok-read_on.field-0 c.loop-reader.invariant c.in_ok-read_on.ensures.read
 
-pub returns-in-Ok-false : goal.returns-in-Ok-false
-returns-in-Ok-false g c = record {
+pub returns-then-not-branch : goal.returns-then-not-branch
+returns-then-not-branch g c = record {
   given = reads_on (g.R.Read.remaining c.args.reader.now) (g.R.Read.remaining c.loop-reader.reader) (g.R.Read.remaining c.read_on.new.reader)
-      c.loop-reader.text.items c.read_on.new.text.items c.in-Ok-false.field-0 c.loop-reader.invariant c.in-Ok-false.ensures.read;
+      c.loop-reader.text.items c.read_on.new.text.items c.in_ok-read_on.field-0 c.loop-reader.invariant c.in_ok-read_on.ensures.read;
   few = c.read_on.ensures.few;
-  whole = λ less. c.in-Ok-false.ensures.read.end c.in-Ok-false.field-0-test;
+  whole = λ less. c.in_ok-read_on.ensures.read.end c.if-not-branch.true;
 }
 
 pub returns : goal.returns

@@ -9,3 +9,6 @@ returns-in-Some-clause-counted g c =
 
 pub returns-in-None-clause-counted : goal.returns-in-None-clause-counted
 returns-in-None-clause-counted g c = inr (c.put_unavailable.ensures.body, refl)
+
+pub returns-then-has_failed-clause-counted : goal.returns-then-has_failed-clause-counted
+returns-then-has_failed-clause-counted g c = inr (c.put_unavailable.ensures.body, refl)
