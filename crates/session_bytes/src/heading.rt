@@ -81,15 +81,23 @@ pub fn read_heading(part: &[u8]) -> Option<Heading>
 {
     let (event, rest) = split_text(part);
     let (site, rest) = split_text(rest);
-    let event = read_name(event)?;
-    let site = read_name(site)?;
+    let Some(event) = read_name(event) else {
+        return None;
+    };
+    let Some(site) = read_name(site) else {
+        return None;
+    };
     if rest.len() != 22 {
         return None;
     }
     let (date, numbers) = rest.split_at(DATE_BYTES);
-    let date = read_date(date)?;
+    let Some(date) = read_date(date) else {
+        return None;
+    };
     let (_, key) = numbers.split_at(7);
-    let scoring = scoring_of(numbers[0])?;
+    let Some(scoring) = scoring_of(numbers[0]) else {
+        return None;
+    };
     Some(Heading {
         event,
         site,
