@@ -1,8 +1,9 @@
 -- What commands do over a disk in a file.
-use Rattle.std.specs.Prelude.{◌≡◌, ◌⊎◌, codes, Option, None, Result, Ok, Err, IsSomeAnd, MatchResult}
+use Rattle.std.specs.Prelude.{◌≡◌, ◌⊎◌, codes, Option, None, Result, Ok, Err, IfOk, IfErr, IsSomeAnd, MatchResult}
 use Rattle.club_commands.specs.Basis.{Bor, Stream, IsUntouched, Disk, Image, Rose, file_disk, session_keeping}
 use Rattle.club_commands.specs.Basis.{StoreFault, DiskFault, NoMemory, SessionValue, RefusesDisk, RefusesReading, header_in, ClubDisk, ClubStore, Over, RunFault, Store}
 use Rattle.sector_disk.specs.Runs.{Remains}
+use Rattle.sector_disk.specs.declared.disk.DiskFault.{DiskFault as Unfound}
 use Rattle.session_store.specs.Layout.{sector_count}
 use Rattle.session_store.specs.Base.{HasEpoch}
 use Rattle.session_store.specs.Sound.{IsSoundDisk, StandsOnlyFor}
@@ -54,6 +55,11 @@ IsRead session = (d : ClubDisk) × (left : ClubDisk) × ReadsSession file_disk d
 -- none was found, or it was read, and holds none
 abbrev pub IsUnread : StoreFault → Type 0
 IsUnread cause = (cause ≡ DiskFault) ⊎ ((d : ClubDisk) × (left : ClubDisk) × RefusesReading file_disk header_in d left cause)
+
+-- what was found of a disk was read, and gave that: a session that it holds, or why it gives none; a disk that was not found gives none
+abbrev pub GivesRead : Result ClubDisk Unfound → Result SessionValue StoreFault → Type 0
+GivesRead (Ok d) read = (left : ClubDisk) × IfOk read (ReadsSession file_disk d left) × IfErr read (RefusesReading file_disk header_in d left)
+GivesRead (Err _) read = read ≡ Err DiskFault
 
 -- over what a work did to the streams and how it ended
 module _ (input output : Stream) (ended : Ended) where

@@ -1,7 +1,7 @@
 //! The command `copy`: a second disk for the session on a disk.
 ghost use Rattle.std.specs.Prelude.{IfErr, IfOk};
 ghost use Rattle.line_text.specs.Streams.{stream};
-ghost use Rattle.club_commands.specs.Works.{HasCopied, IsRead, IsUnread};
+ghost use Rattle.club_commands.specs.Works.{HasCopied, GivesRead, IsRead, IsUnread};
 
 use crate::fault::RunFault;
 use crate::machine::Machine;
@@ -16,6 +16,7 @@ use std::io::{Read, Write};
 
 /// The session that a disk holds, if there is one, read of it.
 pub fn session_on(alloc: Global, found: Result<ClubDisk, DiskFault>) -> Result<Session, StoreFault>
+    ensures given { GivesRead found result }
     ensures read { IfOk result IsRead }
     ensures fault { IfErr result IsUnread }
 {

@@ -1,5 +1,6 @@
 //! A file in which a disk is to be made: what stood there is kept. What becomes of a file no clause can say, and tests show it.
 ghost use Rattle.std.specs.Prelude.{◌≡◌, true, IfErr};
+ghost use Rattle.sector_disk.specs.Runs.{Quiet};
 ghost use Rattle.club_disk.specs.Stored.{IsOpening};
 
 use crate::disk_lock::lock_new;
@@ -11,9 +12,10 @@ use std::fs::File;
 use std::io::{self, ErrorKind};
 use std::rt::Files;
 
-/// Whether a disk holds a session of which nothing is accepted: one that is as its configuration begins it.
+/// Whether a disk holds a session of which nothing is accepted: one that is as its configuration begins it. Nothing is written.
 fn holds_an_opening<D: SectorDisk>(alloc: Global, disk: &mut D) -> bool
-    ensures { D.disk.honest disk.old → result ≡ true → IsOpening (D.disk.reads disk.old) }
+    ensures opening { D.disk.honest disk.old → result ≡ true → IsOpening (D.disk.reads disk.old) }
+    ensures quiet { Quiet D.disk disk.old disk.new }
 {
     let Ok(first) = read_state::<D, Session>(alloc, disk) else {
         return false;
