@@ -1,5 +1,5 @@
 -- What stands on the program's streams once a command was done, and at a fault.
-use Rattle.std.specs.Prelude.{◌≡◌, ◌⊎◌, ◌++◌, [], ℕ, List, length, map, codes, MatchResult, Option, Some, None}
+use Rattle.std.specs.Prelude.{◌≡◌, ◌⊎◌, ◌++◌, ℕ, List, length, map, codes, MatchResult, Option, Some, None}
 use Rattle.club_commands.specs.Basis.{Bor, Stream, TakesPrefix, IsUntouched, ServeFault, StreamFault, NoMemory, Ranking, Games}
 use Rattle.bridge_cards.specs.Board.{dealer_of}
 use Rattle.auction_command.specs.Heard.{AnswersAll, StopsAt}

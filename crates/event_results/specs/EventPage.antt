@@ -1,5 +1,5 @@
 -- The results of several sections as a page.
-use Rattle.std.specs.Prelude.{ℕ, ◌+◌, List, [], ◌∷◌, ◌++◌, codes, length, flat_map, slice_get, slice_index_or, Option, None, Result}
+use Rattle.std.specs.Prelude.{ℕ, ◌+◌, List, [], ◌∷◌, ◌++◌, codes, length, flat_map, slice_get, slice_index_or, Result}
 use Rattle.std.specs.List.{range_with_len}
 use Rattle.std.specs.Option.{option_map_or}
 use Rattle.bridge_cards.specs.declared.scoring.Scoring.{Scoring}

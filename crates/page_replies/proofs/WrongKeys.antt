@@ -1,14 +1,13 @@
 -- A key that is nobody's is refused as that.
-use Rattle.std.proofs.Common.{◌≡◌, ℕ, ◌==◌, Bool, true, false, cond, List, Option, Some, None, Result, Ok, Err, refl, sym, ap, ◌∙◌}
+use Rattle.std.proofs.Common.{◌≡◌, ℕ, ◌==◌, Bool, true, false, cond, List, Option, Some, None, Ok, Err, refl, sym, ap, ◌∙◌}
 use Rattle.std.specs.Prelude.{is_some, is_none, ok_or}
 use Rattle.std.specs.Option.{option_map_or}
 use Rattle.std.proofs.lemmas.Bool.{true≢false}
 use Rattle.bridge_config.specs.declared.fields.Key.{Key}
-use Rattle.session_rules.specs.declared.refused.Refused.{Refused as SessionRefused}
 use Rattle.session_rules.specs.declared.refused.Refused.TheVariants.{NotAllowed, NoKey}
 use Rattle.session_rules.specs.declared.seating.Player.{Player}
 use Rattle.session_rules.specs.Answer.{Answer}
-use Rattle.session_rules.specs.State.{SessionValue, acting_player, director_answer, ranking_asker, is_closed, is_nobodys, player_of}
+use Rattle.session_rules.specs.State.{SessionValue, director_answer, ranking_asker, is_closed, is_nobodys, player_of}
 use Rattle.session_rules.specs.Stage.{stage_to}
 use Rattle.line_replies.specs.declared.short_reply.ShortReply.TheVariants.{Refused, BadLine}
 use Rattle.line_replies.specs.KeyWord.{key_of_word}

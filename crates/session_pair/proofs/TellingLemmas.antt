@@ -1,5 +1,5 @@
 -- What settling leaves of a pair.
-use Rattle.std.proofs.Common.{◌≡◌, ◌⊎◌, Bool, [], Some, true, false, inl, inr, refl, sym, ap, subst, ◌∙◌}
+use Rattle.std.proofs.Common.{◌≡◌, Bool, [], Some, true, false, inl, inr, refl, sym, ap, subst, ◌∙◌}
 use Rattle.std.proofs.lemmas.Bool.{cases_Bool}
 use Rattle.sector_disk.specs.Disk.{Disk}
 use Rattle.session_store.specs.Keeping.{Keeping}

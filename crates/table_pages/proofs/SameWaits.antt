@@ -1,19 +1,17 @@
 -- What a player is told, over sessions that look alike to him and beside desks that are alike at his table.
-use Rattle.std.proofs.Common.{◌≡◌, ◌≢◌, ◌⊎◌, inl, inr, ℕ, ◌==◌, Bool, List, ◌++◌, Err, sym, ap, ◌∙◌, subst}
+use Rattle.std.proofs.Common.{◌≢◌, inl, inr, ℕ, ◌==◌, Bool, List, ◌++◌, sym, ap, ◌∙◌, subst}
 use Rattle.std.proofs.lemmas.Bool.{ne_eqb}
 use Rattle.bridge_config.specs.declared.fields.Key.{Key}
 use Rattle.line_text.specs.Lines.{lines_text}
 use Rattle.session_rules.specs.Sight.{LookAlikeTo}
 use Rattle.session_rules.specs.State.{SessionValue}
-use Rattle.session_rules.specs.See.{shown_to}
 use Rattle.session_rules.proofs.SameView.{shown_same, view_same}
 use Rattle.desk_replies.specs.declared.desk.Desk.{Desk}
 use Rattle.desk_replies.specs.Laws.{StandAlikeTo}
-use Rattle.desk_replies.specs.Told.{standing_lines}
 use Rattle.desk_replies.proofs.SameDesk.{told_same, told_alike}
 use Rattle.page_replies.specs.Place.{place_to}
 use Rattle.page_replies.proofs.SamePlace.{place_same}
-use Rattle.table_server.specs.Told.{Tells, TellsView, TellsRefusal}
+use Rattle.table_server.specs.Told.{Tells}
 use Rattle.table_server.specs.declared.asked.Question.TheVariants.{See}
 use Rattle.table_pages.specs.Waits.{desk_lines, SeesSame, TellsPlayer, TellsEither, TellsNow}
 

@@ -1,5 +1,5 @@
 -- Requests that wait: their bodies are a key, a line feed, and what was told last.
-use Rattle.std.specs.Prelude.{◌≡◌, ◌≢◌, ℕ, Bool, true, false, ◌&&◌, ◌==◌, nat_le, if◌then◌else◌, length, List, [], ◌∷◌, ◌++◌, Option, None, Some, IsSomeAnd}
+use Rattle.std.specs.Prelude.{◌≡◌, ◌≢◌, ℕ, Bool, true, false, ◌==◌, nat_le, if◌then◌else◌, length, List, ◌++◌, Option, None, Some, IsSomeAnd}
 use Rattle.std.specs.Option.{option_map_or}
 use Rattle.bridge_config.specs.ConfigValue.{ConfigValue}
 use Rattle.bridge_config.specs.declared.fields.Key.{Key}

@@ -1,17 +1,17 @@
 -- What holds once a connection was served.
-use Rattle.std.proofs.Common.{◌≡◌, ℕ, false, List, [], Option, Result, Ok, Err, inl, inr}
+use Rattle.std.proofs.Common.{ℕ, List, Option, Result, Ok, Err}
 use Rattle.std.specs.Prelude.{IfOk, IfErr}
 use Rattle.sector_disk.specs.Disk.{Disk}
 use Rattle.session_store.specs.Value.{StoreValue}
 use Rattle.session_rules.specs.declared.action.Action.{Action}
 use Rattle.session_rules.specs.State.{SessionValue}
-use Rattle.line_text.specs.Streams.{Stream, stream}
+use Rattle.line_text.specs.Streams.{stream}
 use Rattle.line_replies.specs.declared.fault.ServeFault.{ServeFault}
 use Rattle.line_replies.specs.declared.fault.ServeFault.TheVariants.{Read, Write, Accept}
 use Rattle.table_server.specs.declared.line_set.LineSet.TheVariants.{Protocol}
 use Rattle.table_server.specs.declared.served.Served.{Served}
 use Rattle.table_server.specs.Accepting.{Sides, HasServedOne, StopsAccepting}
-use Rattle.table_server.specs.ServedStreams.{HasServed, StopsServing, EndsServing}
+use Rattle.table_server.specs.ServedStreams.{HasServed, StopsServing}
 
 module _ {D : Type 0} (disk : Disk D) {S : Type 0} (remaining contents : S → Option (List ℕ)) where
   -- the lines of a connection were served, where those of its sides were

@@ -1,7 +1,6 @@
 -- Lines leave the configuration as it is, so that their keys are judged alike.
-use Rattle.std.proofs.Common.{◌≡◌, ℕ, ◌+◌, ◌<◌, ◌≤◌, ◌^◌, zero, suc, Bool, true, false, cond, List, [], ◌∷◌, ◌++◌, length, Result, Ok, Err, refl, sym, ap, ◌∙◌, arith}
+use Rattle.std.proofs.Common.{◌≡◌, ℕ, ◌+◌, ◌<◌, ◌≤◌, zero, suc, Bool, true, false, cond, List, [], ◌∷◌, ◌++◌, length, Result, Ok, Err, refl, ap, ◌∙◌, arith}
 use Rattle.std.specs.Prelude.{min}
-use Rattle.std.specs.List.{count_by}
 use Rattle.std.proofs.lemmas.List.Sums.{count_by-le-length, sum_by_push}
 use Rattle.sector_disk.specs.Disk.{Disk}
 use Rattle.bridge_config.specs.ConfigValue.{ConfigValue}
@@ -18,7 +17,7 @@ use Rattle.table_server.specs.declared.asked.Asked.TheVariants.{Change, Told, Ba
 use Rattle.table_server.specs.declared.held_replies.HeldReplies.{HeldReplies}
 use Rattle.table_server.specs.Answered.{after_all, after_asked}
 use Rattle.table_server.specs.Serving.{Serving, ServingBy}
-use Rattle.table_server.specs.Standing.{Standing, standing_of, standing_by, standing_within, after_change}
+use Rattle.table_server.specs.Standing.{Standing, standing_of, standing_by, standing_within}
 use Rattle.table_server.specs.WrongKeys.{has_wrong_key, wrong_keys}
 
 -- the answer to an action,

@@ -18,7 +18,7 @@ use Rattle.table_server.specs.Hearing.{Hearing, HearsOn}
 use Rattle.line_replies.specs.Limit.{byte_limit, limit_notice}
 use Rattle.table_server.specs.declared.served.ServedKeys.{ServedKeys}
 use Rattle.line_replies.specs.declared.fault.ServeFault.TheVariants.{Read, Write, Accept}
-use Rattle.table_server.specs.ServedStreams.{HasRead, HasServed, HasCounted, StopsReading, StopsReplying, StopsNoticing, StopsServing, EndsCounting}
+use Rattle.table_server.specs.ServedStreams.{HasRead, HasCounted, StopsReading, StopsReplying, StopsNoticing, StopsServing, EndsCounting}
 use Rattle.table_server.specs.Serving.{Ends}
 use Rattle.table_server.proofs.HearingLemmas.{hears_after, hears_asks}
 use Rattle.table_server.proofs.ServesLemmas.{stopped_after}

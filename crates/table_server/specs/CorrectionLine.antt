@@ -1,6 +1,5 @@
 -- Which line states which correction of the director.
 use Rattle.std.specs.Prelude.{ℕ, zero, suc, ◌-◌, ◌==◌, ◌&&◌, nat_le, Bool, if◌then◌else◌, List, [], ◌∷◌, length, take, slice_index, codes, Option, Some, None}
-use Rattle.std.specs.Option.{option_map}
 use Rattle.std.specs.Str.{bytes_eq}
 use Rattle.line_text.specs.Words.{only_word}
 use Rattle.bridge_cards.specs.declared.seat.Seat.{Seat}

@@ -10,7 +10,7 @@ use Rattle.bridge_results.specs.declared.play.TablePlay.{TablePlay}
 use Rattle.bridge_results.specs.Plays.{HasTricksWithin}
 use Rattle.bridge_results.proofs.Known.{row_numbers, record_at, known_play, known_few, no_play}
 use Rattle.bridge_results.proofs.session_plays.table_play_at.Goals as goal
-use Rattle.bridge_results.proofs.session_plays.table_play_at.Goals.{After-board_at-board, After-play_known}
+use Rattle.bridge_results.proofs.session_plays.table_play_at.Goals.{After-play_known}
 
 pub play_id-requires-clause-round : goal.play_id-requires-clause-round
 play_id-requires-clause-round c = (row_numbers c.args.session.now c.args.row c.requires.session c.requires.row).0

@@ -1,4 +1,3 @@
-use Rattle.std.proofs.Common.{◌++◌}
 use Rattle.desk_replies.specs.Told.{named_lines, kept_lines}
 use Rattle.desk_replies.proofs.Lines.{then_ok, three_more}
 use Rattle.desk_replies.proofs.telling.push_disks.Goals as goal

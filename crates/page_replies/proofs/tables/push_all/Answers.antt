@@ -1,4 +1,4 @@
-use Rattle.std.proofs.Common.{◌≡◌, [], ◌∷◌, ap, ◌∙◌}
+use Rattle.std.proofs.Common.{◌≡◌, ◌∷◌, ap, ◌∙◌}
 use Rattle.bridge_config.specs.ConfigValue.{configuration_of}
 use Rattle.line_replies.proofs.Added.{line_then}
 use Rattle.line_replies.specs.ReplyTexts.{listed_text}

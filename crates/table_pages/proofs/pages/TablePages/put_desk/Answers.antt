@@ -1,4 +1,4 @@
-use Rattle.std.proofs.Common.{◌≡◌, ℕ, cond, inr, refl, ◌∙◌, ap, Bool}
+use Rattle.std.proofs.Common.{◌≡◌, cond, inr, refl, ◌∙◌, ap, Bool}
 use Rattle.table_pages.proofs.Counted.{counts_as}
 use Rattle.table_pages.proofs.pages.TablePages.put_desk.Goals as goal
 
