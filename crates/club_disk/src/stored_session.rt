@@ -28,6 +28,11 @@ pub fn read_disk<D: SectorDisk>(alloc: Global, disk: &mut D) -> Result<Session, 
     ensures read { IfOk result (ReadsSession D.disk disk.old disk.new) }
     ensures fault { IfErr result (RefusesReading D.disk header_in disk.old disk.new) }
 {
-    let Reading { state, .. } = read_state::<D, Session>(alloc, disk)?;
-    Ok(state)
+    match read_state::<D, Session>(alloc, disk) {
+        Ok(found) => {
+            let Reading { state, .. } = found;
+            Ok(state)
+        }
+        Err(fault) => Err(fault),
+    }
 }

@@ -18,6 +18,6 @@ pub returns-in-Ok-read_state-clause-quiet : goal.returns-in-Ok-read_state-clause
 returns-in-Ok-read_state-clause-quiet g c =
     quiet_joins g.D.SectorDisk.disk c.args.disk.now c.read_state.new.disk c.read_state-2.new.disk c.read_state.ensures.quiet c.read_state-2.ensures.quiet
 
-pub returns-in-Err-clause-quiet : goal.returns-in-Err-clause-quiet
-returns-in-Err-clause-quiet g c =
+pub returns-clause-quiet : goal.returns-clause-quiet
+returns-clause-quiet g c =
     quiet_joins g.D.SectorDisk.disk c.args.disk.now c.read_state.new.disk c.read_state-2.new.disk c.read_state.ensures.quiet c.read_state-2.ensures.quiet
