@@ -55,14 +55,20 @@ impl SeenClaim {
 fn claim_of(play: Option<&Play>) -> Option<Claim>
     ensures { result ≡ option_and_then (λ play. play.claim) (option_copied play.entry) }
 {
-    play?.claim()
+    match play {
+        Some(play) => play.claim(),
+        None => None,
+    }
 }
 
 /// The claim in a play, if there is such a play and one stands in it or was agreed.
 fn claim_at(session: &Session, play: PlayId) -> Option<Claim>
     ensures { result ≡ claim_at session.now play }
 {
-    claim_of(session.entry(play)?.play)
+    match session.entry(play) {
+        Some(entry) => claim_of(entry.play),
+        None => None,
+    }
 }
 
 /// Where the viewer sits, and the claims of the play that a view shows.
@@ -84,7 +90,10 @@ fn seen_of(session: &Session, view: &View<'_>) -> SeenClaim
 pub(crate) fn is_asked(session: &Session, key: Key) -> Result<bool, Refused>
     ensures { result ≡ is_asked session.now key.0 }
 {
-    Ok(session.stage(key)?.answer_due)
+    match session.stage(key) {
+        Ok(stage) => Ok(stage.answer_due),
+        Err(refused) => Err(refused),
+    }
 }
 
 /// Where the player of the key sits and the claims of the play that he is shown there, where he is shown one.
