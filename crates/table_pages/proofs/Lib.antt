@@ -1,5 +1,4 @@
 pub mod Answered
-pub mod Counted
 pub mod Shown
 mod BodyLines
 mod SameWaits

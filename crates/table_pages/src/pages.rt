@@ -5,10 +5,10 @@ ghost use Rattle.http.specs.Request.{head_of};
 ghost use Rattle.web_requests.specs.Filled.{IsText, IsUnavailable};
 ghost use Rattle.web_requests.specs.Route.{route_for};
 ghost use Rattle.table_pages.specs.Failing.{TellsState};
-ghost use Rattle.table_pages.specs.WrongKeys.{with_key, with_more, CountsLines};
+ghost use Rattle.table_pages.specs.WrongKeys.{with_key, with_more, CountsLines, CountsShort};
 
 use crate::host_names::HostNames;
-use crate::line_server::{LineServer, Replies};
+use crate::line_server::LineServer;
 use crate::page_texts::PageTexts;
 use crate::seconds::Seconds;
 use bridge_endings::Cache;
@@ -34,6 +34,16 @@ fn count_of(wrong: bool) -> u64
     ensures { result ≡ (if wrong then 1 else 0) }
 {
     if wrong { 1 } else { 0 }
+}
+
+/// Fills a response with these lines, or where memory is refused with nothing.
+fn put_or_none(response: &mut Response, text: &[u8])
+    requires { IsBlank response.old }
+    ensures { IsText Kind.Lines text.now response.new ⊎ IsUnavailable response.new }
+{
+    if put_text(response, Kind::Lines, text).is_err() {
+        put_unavailable(response);
+    }
 }
 
 /// A body of so many bytes is too long.
@@ -130,7 +140,8 @@ impl<T: LineServer, K: Seconds> TablePages<T, K> {
     ) -> Result<(), AllocError>
         requires { IsBlank response.old }
         ensures lines { OnOk result (TellsShort (T.answers set) (nat_lt (length body.now) 65536) self.old.server body.now response.new self.new.server) }
-        ensures counted { OnOk result (CountsLines (T.counts set self.old.server body.now) self.old.wrong response.new self.new.wrong) }
+        ensures counted { OnOk result (CountsShort (nat_lt (length body.now) 65536) (T.counts set self.old.server body.now)
+            (T.answers set self.old.server body.now None self.new.server) self.old.wrong self.new.wrong) }
         ensures fixed { (self.new.names ≡ self.old.names) × (self.new.texts ≡ self.old.texts) × (self.new.people ≡ self.old.people) × (self.new.wishes ≡ self.old.wishes) }
         ensures beside { (self.new.is_open ≡ self.old.is_open) × (self.new.desk ≡ self.old.desk) }
         ensures err { OnErr result (self.new ≡ self.old) }
@@ -180,28 +191,17 @@ impl<T: LineServer, K: Seconds> TablePages<T, K> {
         requires blank { IsBlank response.old }
         requires short { length body.now < 65536 }
         ensures lines { TellsLines (T.answers set) self.old.server body.now response.new self.new.server }
-        ensures counted { CountsLines (T.counts set self.old.server body.now) self.old.wrong response.new self.new.wrong }
+        ensures counted { CountsLines (T.counts set self.old.server body.now)
+            (T.answers set self.old.server body.now None self.new.server) self.old.wrong self.new.wrong }
         ensures fixed { (self.new.names ≡ self.old.names) × (self.new.texts ≡ self.old.texts) × (self.new.people ≡ self.old.people) × (self.new.wishes ≡ self.old.wishes) }
         ensures beside { (self.new.is_open ≡ self.old.is_open) × (self.new.desk ≡ self.old.desk) }
     {
         match self.server.answer(set, self.alloc, &mut self.cache, body) {
-            Some(replies) => self.put_replies(response, &replies),
+            Some(replies) => {
+                self.wrong = self.wrong.saturating_add(replies.wrong_keys);
+                put_or_none(response, replies.text.as_slice());
+            }
             None => put_unavailable(response),
-        }
-    }
-
-    /// Fills a response with replies, or where memory is refused with nothing.
-    fn put_replies(&mut self, response: &mut Response, replies: &Replies)
-        requires { IsBlank response.old }
-        ensures text { IsText Kind.Lines replies.now.text.items response.new ⊎ IsUnavailable response.new }
-        ensures counted { CountsLines (λ count. count ≡ replies.now.wrong_keys) self.old.wrong response.new self.new.wrong }
-        ensures server { self.new.server ≡ self.old.server }
-        ensures fixed { (self.new.names ≡ self.old.names) × (self.new.texts ≡ self.old.texts) × (self.new.people ≡ self.old.people) × (self.new.wishes ≡ self.old.wishes) }
-        ensures beside { (self.new.is_open ≡ self.old.is_open) × (self.new.desk ≡ self.old.desk) }
-    {
-        let text = replies.text.as_slice();
-        if self.put_told(response, text, replies.wrong_keys).is_err() {
-            put_unavailable(response);
         }
     }
 
@@ -265,8 +265,8 @@ impl<T: LineServer, K: Seconds> Service for TablePages<T, K> {
     ghost answers = { λ old request response new.
         Answering T.answers T.failed T.places T.tables T.waits T.boards T.desks T.results (site_of old.texts old.names old.people.items) old.server request response new.server
         × (new.names ≡ old.names) × (new.texts ≡ old.texts)
-        × Counts T.counts T.wrong_key T.wrong_at_boards T.wrong_at_desk (route_for (string_bytes old.names.host) (string_bytes old.names.alias) (head_of request))
-        old.server (body_of request) old.wrong response new.wrong
+        × Counts T.answers T.counts T.wrong_key T.wrong_at_boards T.wrong_at_desk (route_for (string_bytes old.names.host) (string_bytes old.names.alias) (head_of request))
+        old.server (body_of request) new.server old.wrong new.wrong
         × Opens T.failed T.boards T.opens (route_for (string_bytes old.names.host) (string_bytes old.names.alias) (head_of request)) old.server old.is_open (body_of request) response new.is_open
         × Stands T.failed T.desks T.stands (K.shows old.clock) (route_for (string_bytes old.names.host) (string_bytes old.names.alias) (head_of request))
         old.server old.desk (body_of request) response new.desk

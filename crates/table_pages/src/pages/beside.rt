@@ -1,12 +1,12 @@
 //! What is answered from beside the session, and from what is over.
-ghost use Rattle.std.specs.Prelude.{◌≡◌, ℕ, List, OnOk, OnErr, if◌then◌else◌};
+ghost use Rattle.std.specs.Prelude.{◌≡◌, ℕ, List, OnOk, OnErr};
 ghost use Rattle.http_server.specs.Response.{IsBlank};
 ghost use Rattle.table_pages.specs.Failing.{TellsState};
 ghost use Rattle.table_pages.specs.Stands.{AnswersDesk};
-ghost use Rattle.table_pages.specs.WrongKeys.{with_key, CountsLines};
+ghost use Rattle.table_pages.specs.WrongKeys.{with_key};
 
-use super::{TablePages, count_of};
-use crate::line_server::{LineServer, Replies};
+use super::{TablePages, count_of, put_or_none};
+use crate::line_server::LineServer;
 use crate::seconds::Seconds;
 use http_server::Response;
 use std::alloc::AllocError;
@@ -63,19 +63,20 @@ impl<T: LineServer, K: Seconds> TablePages<T, K> {
     pub(super) fn put_desk(&mut self, body: &[u8], response: &mut Response)
         requires { IsBlank response.old }
         ensures desk { AnswersDesk T.failed T.desks T.stands (K.shows self.old.clock) self.old.server self.old.desk body.now response.new self.new.desk }
-        ensures counted { CountsLines (λ count. count ≡ (if T.wrong_at_desk self.old.server body.now then 1 else 0)) self.old.wrong response.new self.new.wrong }
+        ensures counted { self.new.wrong ≡ with_key self.old.wrong (T.wrong_at_desk self.old.server body.now) }
         ensures server { self.new.server ≡ self.old.server }
         ensures fixed { (self.new.names ≡ self.old.names) × (self.new.texts ≡ self.old.texts) × (self.new.people ≡ self.old.people) × (self.new.wishes ≡ self.old.wishes) }
         ensures open { self.new.is_open ≡ self.old.is_open }
     {
-        let wrong_keys = count_of(self.server.has_wrong_key_at_desk(body));
+        let wrong = self.server.has_wrong_key_at_desk(body);
         let at = self.clock.seconds();
         let told = self.server.desk(&mut self.desk, self.alloc, at, body);
+        self.wrong = self.wrong.saturating_add(count_of(wrong));
         if self.server.has_failed() {
             return put_unavailable(response);
         }
         match told {
-            Some(text) => self.put_replies(response, &Replies { text, wrong_keys }),
+            Some(text) => put_or_none(response, text.as_slice()),
             None => put_unavailable(response),
         }
     }

@@ -31,7 +31,7 @@ impl<T: LineServer, K: Seconds> TablePages<T, K> {
     ) -> Result<(), AllocError>
         requires { IsBlank response.old }
         ensures tells { OnOk result (Responds T.answers T.failed T.places T.tables T.waits T.boards T.desks T.results self.old.texts self.old.people.items route self.old.server body.now response.new self.new.server) }
-        ensures counted { OnOk result (Counts T.counts T.wrong_key T.wrong_at_boards T.wrong_at_desk route self.old.server body.now self.old.wrong response.new self.new.wrong) }
+        ensures counted { OnOk result (Counts T.answers T.counts T.wrong_key T.wrong_at_boards T.wrong_at_desk route self.old.server body.now self.new.server self.old.wrong self.new.wrong) }
         ensures opened { OnOk result (Opens T.failed T.boards T.opens route self.old.server self.old.is_open body.now response.new self.new.is_open) }
         ensures stands { OnOk result (Stands T.failed T.desks T.stands (K.shows self.old.clock) route self.old.server self.old.desk body.now response.new self.new.desk) }
         ensures fixed { (self.new.names ≡ self.old.names) × (self.new.texts ≡ self.old.texts) × (self.new.people ≡ self.old.people) × (self.new.wishes ≡ self.old.wishes) }
