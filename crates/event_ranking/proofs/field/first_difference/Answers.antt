@@ -12,4 +12,4 @@ pub returns-in_err-first_other_deal : goal.returns-in_err-first_other_deal
 returns-in_err-first_other_deal c =
     let scoring : HaveOneScoring c.args.ours.now c.args.theirs.now = search rules in
     let size : HaveOneSize c.args.ours.now c.args.theirs.now = search rules in
-    record { scoring = scoring; boards = size; deals = c.in_err-first_other_deal.ensures }
+    rw c.from_residual.ensures (record { scoring = scoring; boards = size; deals = c.in_err-first_other_deal.ensures })
