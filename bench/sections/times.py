@@ -17,14 +17,22 @@ import evening
 FORMS = [["results", "--no-analysis"], ["results", "--html", "--no-analysis"], ["export"], ["export", "--rankings"], ["export", "--json"], ["export", "--pbn", "--no-analysis"]]
 
 
+def most_memory(pid):
+    """The most kilobytes that a process has had, or 0 where it has ended."""
+    with open(f"/proc/{pid}/status") as file:
+        return next((int(line.split()[1]) for line in file if line.startswith("VmHWM:")), 0)
+
+
 def run(program, words, disks):
-    """Seconds, megabytes at the most, and what was printed."""
+    """Seconds, megabytes at the most while it printed, and what was printed."""
     start = time.perf_counter()
     process = subprocess.Popen([program, words[0], *disks, *words[1:]], stdin=subprocess.DEVNULL, stdout=subprocess.PIPE)
-    printed = process.stdout.read()
-    _, status, usage = os.wait4(process.pid, 0)
-    assert status == 0, words
-    return time.perf_counter() - start, usage.ru_maxrss / 1024, printed
+    printed, most = bytearray(), 0
+    while piece := process.stdout.read1(65_536):
+        printed += piece
+        most = most_memory(process.pid) or most
+    assert process.wait() == 0, words
+    return time.perf_counter() - start, most / 1024, bytes(printed)
 
 
 def compared(printed):
