@@ -44,8 +44,8 @@ class Page:
         start = time.perf_counter()
         answer = body(asked(self.connection, request(b"/lines", b"SEE %d\n" % key)))
         self.looks.append(time.perf_counter() - start)
-        # A pair whose boards of the round are over has none to see.
-        assert not answer.startswith(b"ERR") or answer == b"ERR 7 NotCurrent\n", answer
+        # A pair whose boards of the round are over, or are not dealt yet, has none to see.
+        assert not answer.startswith(b"ERR") or answer in (b"ERR 7 NotCurrent\n", b"ERR 8 NotDealt\n"), answer
 
 
 def played(process, lines):
