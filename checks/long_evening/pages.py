@@ -16,6 +16,8 @@ from sockets import PORT, asked, connected, percentiles, request
 PAGES = 28
 LOOKS = 8  # how many pages look after each change
 MOST = 0.1  # of a look, in seconds
+HOUR = 3_600  # looks of all pages where nothing changes
+SESSION = 1_250  # kilobytes that the largest session takes, by which memory may grow while it is played
 
 
 def of_process(process):
@@ -49,24 +51,32 @@ class Page:
 
 
 def played(process, lines):
-    """The lines sent, each by the page of its turn and then looked at; what was measured of the process, and of the changes."""
+    """The lines sent, each by the page of its turn and then looked at, and before the last one as many looks as an hour has seconds, by
+    all pages; what was measured of the process meanwhile, and while nothing but looks came."""
     pages = [Page() for _ in range(PAGES)]
-    changes, measures, told, begun = [], [], 0, time.perf_counter()
+    changes, playing, looking, told, begun = [], [], [], 0, time.perf_counter()
     with concurrent.futures.ThreadPoolExecutor(LOOKS) as together:
-        for at, line in enumerate(lines):
-            changes.append(pages[at % PAGES].sends(line))
-            if at + 1 == len(lines):
-                break  # the session is closed, and nothing is to be seen
+
+        def look(at):
             seen = [together.submit(pages[(at + step) % PAGES].looks_at, 2 + (at + step) % 48) for step in range(1, LOOKS + 1)]
             for one in seen:
                 one.result()
-            told += 1 + LOOKS
-            if at % 500 == 0:
-                measures.append(of_process(process))
+            return LOOKS
+
+        for at, line in enumerate(lines[:-1]):
+            changes.append(pages[at % PAGES].sends(line))
+            told += 1 + look(at)
+            if at % 500 == 499:
+                playing.append(of_process(process))
+        for at in range(HOUR):
+            told += look(at)
+            if at % 100 == 0:
+                looking.append(of_process(process))
+        changes.append(pages[0].sends(lines[-1]))
     looks = [look for page in pages for look in page.looks]
     print(f"{told} lines by {PAGES} pages in {time.perf_counter() - begun:.0f} s; a look: {percentiles(looks)}, the last {max(looks) * 1000:.1f} ms; "
           f"a change, two syncs with it: {percentiles(changes)}, the last {max(changes) * 1000:.1f} ms")
-    return told, looks, measures
+    return told, looks, playing, looking
 
 
 def printed(program, *words):
@@ -88,16 +98,17 @@ def main():
             subprocess.run([program, "script", other], check=True, stdin=file, stdout=subprocess.DEVNULL)
     process = subprocess.Popen([program, "web", disk, str(PORT), "600", "--copy", copy], stdin=subprocess.DEVNULL, stdout=subprocess.DEVNULL)
     try:
-        told, looks, measures = played(process, lines)
+        told, looks, playing, looking = played(process, lines)
     finally:
         process.kill()
         process.wait()
-    level = measures[len(measures) // 5:]
-    memory, descriptors = ([one[at] for one in level] for at in (0, 1))
-    print(f"memory {min(memory)} to {max(memory)} kB, descriptors {min(descriptors)} to {max(descriptors)}, from a fifth on")
+    for measures, what in ((playing, "while it is played"), (looking, "while it is only looked at")):
+        memory, descriptors = zip(*measures)
+        print(f"memory {min(memory)} to {max(memory)} kB, descriptors {min(descriptors)} to {max(descriptors)}, {what}")
     assert told >= 200_000, told
     assert max(looks) < MOST, max(looks)
-    assert max(memory) - min(memory) <= 64 and min(descriptors) == max(descriptors)
+    most = [max(memory) - min(memory) for memory in ([one[0] for one in measures] for measures in (playing, looking))]
+    assert most[0] <= SESSION and most[1] <= 64 and len({one[1] for one in playing + looking}) == 1, most
     for words in (["rank"], ["results", "--no-analysis"], ["pbn"]):
         due = printed(program, words[0], other, *words[1:])
         for path in (disk, copy):
