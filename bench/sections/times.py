@@ -60,12 +60,12 @@ def main():
     for path in files:
         with open(path, encoding="ascii") as file:
             subprocess.run([program, "script", disk], check=True, stdin=file, stdout=subprocess.DEVNULL)
-    seconds, _, printed = run(program, ["export"], [disk] * 40)
+    _, _, printed = run(program, ["export"], [disk] * 40)
     peer, totals, plays = compared(printed)
     print(f"a peer compares {plays} plays in {peer:.2f} s")
     for words in FORMS:
-        (most, memory, printed), (_, fewer, _) = run(program, words, [disk] * 40), run(program, words, [disk] * 10)
-        print(f"{' '.join(words)}: {most:.2f} s, {most / peer:.1f} times the peer; {memory:.1f} MB, of ten sections {fewer:.1f} MB")
+        (seconds, memory, printed), (_, fewer, _) = run(program, words, [disk] * 40), run(program, words, [disk] * 10)
+        print(f"{' '.join(words)}: {seconds:.2f} s, {seconds / peer:.1f} times the peer; {memory:.1f} MB, of ten sections {fewer:.1f} MB")
         if words == ["export", "--rankings"]:
             found = {(row["section"], row["pair"]): row["score"] for row in csv.DictReader(printed.decode().splitlines())}
             assert found.keys() == totals.keys() and all(float(found[pair]) == totals[pair] for pair in totals), "other totals"

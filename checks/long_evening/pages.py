@@ -1,4 +1,4 @@
-"""28 pages of one evening over two disks: who is to act sends a line, and then all pages look.
+"""28 pages of one evening over two disks: they send its lines in turn, and after each eight of them look.
 
 Words: the program, and a folder for files.
 """
@@ -16,7 +16,7 @@ from sockets import PORT, asked, connected, percentiles, request
 PAGES = 28
 LOOKS = 8  # how many pages look after each change
 MOST = 0.1  # of a look, in seconds
-HOUR = 3_600  # looks of all pages where nothing changes
+HOUR = 3_600  # rounds of looks, each by eight pages, where nothing changes
 SESSION = 1_250  # kilobytes that the largest session takes, by which memory may grow while it is played
 
 
@@ -51,8 +51,8 @@ class Page:
 
 
 def played(process, lines):
-    """The lines sent, each by the page of its turn and then looked at, and before the last one as many looks as an hour has seconds, by
-    all pages; what was measured of the process meanwhile, and while nothing but looks came."""
+    """The lines sent, each by the page of its turn and then looked at, and before the last one as many rounds of looks as an
+    hour has seconds, each by eight pages; what was measured of the process meanwhile, and while nothing but looks came."""
     pages = [Page() for _ in range(PAGES)]
     changes, playing, looking, told, begun = [], [], [], 0, time.perf_counter()
     with concurrent.futures.ThreadPoolExecutor(LOOKS) as together:

@@ -1,4 +1,4 @@
-"""The program's part: an evening over its `script`, and what its `rank` and `pbn` print of it."""
+"""The program's part: an evening over its `script`, and what its `rank`, `results`, `pbn` and `export` print of it."""
 import csv
 import itertools
 import os
