@@ -62,7 +62,7 @@ fn gain_of(scoring: Scoring, scores: &[i32], own: i32) -> i32
 }
 
 /// The side on which a pair played.
-fn side_in(pair: u8, game: Game) -> Option<Side>
+pub fn side_in(pair: u8, game: Game) -> Option<Side>
     ensures { result ≡ side_in pair game }
 {
     if game.ns == pair {
@@ -96,7 +96,7 @@ fn award(scoring: Scoring, average: Average, available: u32) -> i32
 }
 
 /// The average that a side is awarded.
-fn average_for(side: Side, ns: Average, ew: Average) -> Average
+pub fn average_for(side: Side, ns: Average, ew: Average) -> Average
     ensures { result ≡ average_for side ns ew }
 {
     match side {

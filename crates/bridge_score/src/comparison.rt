@@ -45,8 +45,8 @@ pub fn matchpoints(scores: &[i32], i: usize) -> u16
     matchpoints_over(own, &scores[..i]) + matchpoints_over(own, &scores[i + 1..])
 }
 
-/// The IMPs against one other score, below 0 where that is greater.
-fn imps_against(own: i32, other: i32) -> i32
+/// The IMPs against one other score, below 0 where that is greater (Law 78B).
+pub fn imps_against(own: i32, other: i32) -> i32
     ensures value { result ≡ imps_against own other }
     ensures least { neg_ℤ (pos 24) ≤ℤ result }
     ensures most { result ≤ℤ pos 24 }

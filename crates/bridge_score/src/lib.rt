@@ -16,9 +16,9 @@ pub mod ranking;
 pub mod scoring_table;
 
 pub use bridge_cards::Scoring;
-pub use comparison::{cross_imps, matchpoints};
+pub use comparison::{cross_imps, imps_against, matchpoints};
 pub use imp_scale::imps;
 pub use laws::{cross_imps_shared, matchpoints_shared};
 pub use percent::{percent_hundredths, share_percent};
-pub use ranking::{Line, MOST_LINES, Ranked, rank};
+pub use ranking::{Line, MOST_LINES, Ranked, is_better, rank};
 pub use scoring_table::score;

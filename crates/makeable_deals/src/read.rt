@@ -76,10 +76,7 @@ pub fn read_deals(alloc: Global, text: &[u8]) -> Result<Vec<BoardDeal>, DealsFau
         let Some((line, after)) = first_line(rest) else {
             return Ok(deals);
         };
-        match take_line(number, line, &mut heading, &mut deals) {
-            Ok(()) => {}
-            Err(fault) => return Err(fault),
-        }
+        take_line(number, line, &mut heading, &mut deals)?;
         rest = after;
     }
     Err(DealsFault::Line(100_000, DealsRefused::TooManyLines))

@@ -1,18 +1,16 @@
 -- Settling a pair of stores.
-use Rattle.std.proofs.Common.{◌≡◌, ◌⊎◌, ◌<◌, ◌≤◌, ◌+◌, ◌-◌, ◌^◌, ℕ, List, [], ◌++◌, drop, Result, Ok, Err, true, false, inl, inr, ⊎_elim, refl, sym, ap, subst, ◌∙◌, arith}
+use Rattle.std.proofs.Common.{◌≡◌, ◌⊎◌, ◌<◌, ◌≤◌, ◌+◌, ◌-◌, ◌^◌, ℕ, List, [], ◌++◌, drop, Err, true, false, inl, inr, refl, sym, ap, subst, ◌∙◌, arith}
 use Rattle.std.proofs.lemmas.List.{drop_all}
 use Rattle.sector_disk.specs.Disk.{Disk, Rose}
 use Rattle.session_store.specs.Keeping.{Keeping}
 use Rattle.session_store.specs.Value.{StoreValue}
 use Rattle.session_store.specs.Store.{Continues}
-use Rattle.session_store.specs.Answers.{Confirms, Checkpoints}
-use Rattle.session_store.specs.Pair.{IsInStep, IsServedPair, IsToldPair}
-use Rattle.session_store.specs.Settling.{AreBothLost, IsSettledPair, FailsSince, CannotRise, CannotSettle, IsOver}
+use Rattle.session_store.specs.Answers.{Checkpoints}
+use Rattle.session_store.specs.Pair.{IsServedPair, IsToldPair}
+use Rattle.session_store.specs.Settling.{IsSettledPair, CannotRise, CannotSettle}
 use Rattle.session_store.specs.declared.fault.CheckpointFault.{CheckpointFault}
 use Rattle.session_store.specs.declared.fault.CheckpointFault.TheVariants.{Failed, EpochsSpent, Disk as DiskFailed}
-use Rattle.session_store.specs.declared.fault.ConfirmFault.{ConfirmFault}
-use Rattle.session_store.specs.declared.fault.ConfirmFault.TheVariants.{Failed as ConfirmFailed, Disk as ConfirmDisk}
-use Rattle.session_store.proofs.PairLemmas.{side-on, served_law}
+use Rattle.session_store.proofs.PairLemmas.{side-on}
 
 -- a store cannot both work and have failed
 pub not_both : {P : Type 0} {D S A : Type 0} (v : StoreValue D S A) → v.failed ≡ true → v.failed ≡ false → P
@@ -111,47 +109,3 @@ module _ {D E S A : Type 0} (first : Disk D) (second : Disk E) where
   first-cannot v v' w epoch DiskFailed failed works is why = (inr ((failed, works), why.2), (why.1, failed))
   first-cannot v v' w epoch EpochsSpent failed works is why =
       let spent = why.0 in (inr ((failed, works), omega (arith, spent, is)), why.1, refl)
-
-  -- nothing more may be told of a pair that is not settled
-  pub cannot-over : (v v' : StoreValue D S A) (w w' : StoreValue E S A) (fault : CheckpointFault)
-      → CannotSettle first second v w v' w' fault → IsOver v' w' fault
-  cannot-over v v' w w' Failed why = subst (λ x. AreBothLost x w') (sym why.1) (subst (λ y. AreBothLost v y) (sym why.2) why.0)
-  cannot-over v v' w w' DiskFailed why = why.1
-  cannot-over v v' w w' EpochsSpent why = subst (λ x. IsOver x w' EpochsSpent) (sym why.1) (subst (λ y. IsOver v y EpochsSpent) (sym why.2) why.0)
-
--- what confirming leaves: the state, and nothing pending where the store works
-pub confirmed-leaves : {D S A R : Type 0} (kept : Keeping S A R) (disk : Disk D) (v v' : StoreValue D S A)
-    (result : Result (Unit {0}) ConfirmFault) → Confirms kept disk v v' result
-    → (v'.state ≡ v.state) × (v'.failed ≡ v.failed ⊎ v'.failed ≡ true) × (v'.failed ≡ false → v'.pending ≡ [])
-confirmed-leaves {D} {S} {A} {R} kept disk v v' (Ok _) did = (
-  ap (λ (x : StoreValue D S A). x.state) did.1,
-  inl (ap (λ (x : StoreValue D S A). x.failed) did.1),
-  λ works. ap (λ (x : StoreValue D S A). x.pending) did.1,
-)
-confirmed-leaves {D} {S} {A} {R} kept disk v v' (Err ConfirmFailed) did = (
-  ap (λ (x : StoreValue D S A). x.state) did.1,
-  inl (ap (λ (x : StoreValue D S A). x.failed) did.1),
-  λ works. not_both v did.0 (sym (ap (λ (x : StoreValue D S A). x.failed) did.1) ∙ works),
-)
-confirmed-leaves {D} {S} {A} {R} kept disk v v' (Err ConfirmDisk) did = (
-  ap (λ (x : StoreValue D S A). x.state) did.2,
-  inr (ap (λ (x : StoreValue D S A). x.failed) did.2),
-  λ works. not_both v' (ap (λ (x : StoreValue D S A). x.failed) did.2) works,
-)
-
--- a pair in step, once each store confirmed, was served
-pub confirmed-served : {D E S A R : Type 0} (kept : Keeping S A R) (first : Disk D) (second : Disk E) (v v' : StoreValue D S A)
-    (w w' : StoreValue E S A) (s : S) (a b : Result (Unit {0}) ConfirmFault) → Confirms kept first v v' a → Confirms kept second w w' b
-    → Continues kept first v [] v' → Continues kept second w [] w' → IsInStep kept first second v w s → IsServedPair kept first second v' w' s
-confirmed-served {D} {E} {S} {A} {R} kept first second v v' w w' s a b did did' call call' step =
-    let left = confirmed-leaves kept first v v' a did in
-    let left' = confirmed-leaves kept second w w' b did' in
-    ((served_law kept first second v v' w w' s s [] [] step call call'
-    (λ works. left.0 ∙ step.first_side.state (worked-first works)) (λ works. left'.0 ∙ step.second_side.state (worked-second works))).1
-    left.2 left'.2)
-  where
-    worked-first : v'.failed ≡ false → v.failed ≡ false
-    worked-first works = ⊎_elim (λ same. sym same ∙ works) (λ failed. not_both v' failed works) (confirmed-leaves kept first v v' a did).1
-
-    worked-second : w'.failed ≡ false → w.failed ≡ false
-    worked-second works = ⊎_elim (λ same. sym same ∙ works) (λ failed. not_both w' failed works) (confirmed-leaves kept second w w' b did').1

@@ -47,9 +47,3 @@ CannotSettle first second v w v' w' DiskFailed =
     ((IsOneLost v w × FailsSince second w w') ⊎ (IsOneLost w v × FailsSince first v v')) × AreBothLost v' w'
 CannotSettle first second v w v' w' EpochsSpent =
     ((IsOneLost v w × IsSpent v) ⊎ (IsOneLost w v × IsSpent w)) × (v' ≡ v) × (w' ≡ w)
-
--- why nothing more may be told of a pair: both disks were lost, or one was, and there are no epochs above its own
-abbrev pub IsOver : {D E S A : Type 0} → StoreValue D S A → StoreValue E S A → CheckpointFault → Type 0
-IsOver v w Failed = AreBothLost v w
-IsOver v w DiskFailed = AreBothLost v w
-IsOver v w EpochsSpent = (IsOneLost v w × IsSpent v) ⊎ (IsOneLost w v × IsSpent w)

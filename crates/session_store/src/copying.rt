@@ -27,13 +27,10 @@ pub(crate) fn settle_epoch<D: SectorDisk>(disk: &mut D) -> Result<u64, DiskFault
     ensures epoch { D.disk.honest disk.old → IfOk result (λ epoch. epoch ≡ epoch_in (D.disk.reads disk.old)) }
     ensures settled { D.disk.honest disk.old → OnOk result (IsOnly (D.disk.may_leave disk.new) (D.disk.reads disk.old)) }
 {
-    if let Err(fault) = raise_barrier(disk) {
-        return Err(fault);
-    }
-    match find_header(disk) {
-        Err(fault) => Err(fault),
-        Ok(None) => Ok(0),
-        Ok(Some(header)) => Ok(header.epoch),
+    raise_barrier(disk)?;
+    match find_header(disk)? {
+        None => Ok(0),
+        Some(header) => Ok(header.epoch),
     }
 }
 
@@ -77,10 +74,8 @@ pub(crate) fn prepare_copy<D: SectorDisk + Drop, K: Kept>(
     let Ok(state) = copy_state(alloc, store.state()) else {
         return Err(StoreFault::NoMemory);
     };
-    match move_apart(store, epoch) {
-        Err(fault) => Err(fault),
-        Ok(()) => Ok((base, state)),
-    }
+    move_apart(store, epoch)?;
+    Ok((base, state))
 }
 
 /// A store of this state on this disk, at the beginning of this epoch, of which the snapshot is written there. It has failed

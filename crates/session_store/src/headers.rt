@@ -15,15 +15,11 @@ use sector_disk::{DiskFault, SECTOR_BYTES, SectorDisk};
 fn placed_header(at: u32, bytes: &[u8; SECTOR_BYTES]) -> Option<Header>
     ensures { result ≡ header_at at bytes.now }
 {
-    match read_header(bytes) {
-        None => None,
-        Some(header) => {
-            if place_of(header.epoch) == at {
-                Some(header)
-            } else {
-                None
-            }
-        }
+    let header = read_header(bytes)?;
+    if place_of(header.epoch) == at {
+        Some(header)
+    } else {
+        None
     }
 }
 

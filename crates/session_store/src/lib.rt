@@ -42,6 +42,6 @@ pub use laws::{crash_law, former_law, frame_law};
 pub use looking::{Reading, is_same_state, read_older_state, read_state};
 pub use pair_opening::{UnopenedPair, open_pair};
 pub use pairing_laws::pair_laws;
-pub use settling::{confirm_pair, settle_pair};
+pub use settling::settle_pair;
 pub use standing::{PairStanding, pair_standing};
 pub use store::{MOST_PENDING, Store};

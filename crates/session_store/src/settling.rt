@@ -1,7 +1,7 @@
-//! Settling a pair of stores, and confirming what both accepted.
+//! Settling a pair of stores.
 ghost use Rattle.std.specs.Prelude.{◌≡◌, ◌≤◌, ◌+◌, [], IsOk, IfOk, IfErr, OnOk};
-ghost use Rattle.session_store.specs.Pair.{IsInStep, IsServedPair, IsToldPair};
-ghost use Rattle.session_store.specs.Settling.{CannotRise, CannotSettle, IsOver, IsSettledAs, IsSettledPair};
+ghost use Rattle.session_store.specs.Pair.{IsServedPair, IsToldPair};
+ghost use Rattle.session_store.specs.Settling.{CannotRise, CannotSettle, IsSettledAs, IsSettledPair};
 ghost use Rattle.session_store.specs.Store.{Continues};
 
 use crate::{CheckpointFault, Kept, PairStanding, Store};
@@ -23,10 +23,7 @@ fn rise_above<D: SectorDisk + Drop, K: Kept>(
         return Err(CheckpointFault::EpochsSpent);
     }
     for _begun in own..epoch + 2 {
-        match store.checkpoint() {
-            Ok(()) => {}
-            Err(fault) => return Err(fault),
-        }
+        store.checkpoint()?;
     }
     Ok(())
 }
@@ -49,32 +46,14 @@ pub fn settle_pair<A: SectorDisk + Drop, B: SectorDisk + Drop, K: Kept>(
 {
     match (first.has_failed(), second.has_failed()) {
         (false, false) => Ok(PairStanding::Level),
-        (true, false) => match rise_above(second, first.epoch()) {
-            Ok(()) => Ok(PairStanding::FirstLost),
-            Err(fault) => Err(fault),
-        },
-        (false, true) => match rise_above(first, second.epoch()) {
-            Ok(()) => Ok(PairStanding::SecondLost),
-            Err(fault) => Err(fault),
-        },
+        (true, false) => {
+            rise_above(second, first.epoch())?;
+            Ok(PairStanding::FirstLost)
+        }
+        (false, true) => {
+            rise_above(first, second.epoch())?;
+            Ok(PairStanding::SecondLost)
+        }
         (true, true) => Err(CheckpointFault::Failed),
     }
-}
-
-/// Confirms what both stores accepted: each confirms what is pending, and the pair is settled. `Ok` says that each disk that
-/// is still kept has all of it; the faults are those of `settle_pair`.
-pub fn confirm_pair<A: SectorDisk + Drop, B: SectorDisk + Drop, K: Kept>(
-    first: &mut Store<A, K>,
-    second: &mut Store<B, K>,
-) -> Result<PairStanding, CheckpointFault>
-    ensures told { (s : K) → IsInStep K.kept A.disk B.disk first.old second.old s
-        → OnOk result (IsToldPair K.kept A.disk B.disk first.new second.new s) }
-    ensures standing { IfOk result (IsSettledAs first.old second.old first.new second.new) }
-    ensures first { Continues K.kept A.disk first.old [] first.new }
-    ensures second { Continues K.kept B.disk second.old [] second.new }
-    ensures fault { IfErr result (IsOver first.new second.new) }
-{
-    let _ = first.confirm();
-    let _ = second.confirm();
-    settle_pair(first, second)
 }

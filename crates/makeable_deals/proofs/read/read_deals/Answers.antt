@@ -1,4 +1,5 @@
 use Rattle.std.proofs.Common.{inr, arith}
+use Rattle.std.proofs.lemmas.Result.{err_from_is_err_and}
 use Rattle.std.specs.Str.Lines.{lines}
 use Rattle.makeable_deals.proofs.LinesRead.{begun, line_taken, ended_at, too_many, stopped}
 use Rattle.makeable_deals.proofs.read.read_deals.Goals as goal
@@ -11,7 +12,7 @@ loop-number-preserved c result rest =
     c.loop-number.invariant result
     (line_taken c.loop-number.number c.loop-number.heading c.take_line.new.heading c.loop-number.deals.items c.take_line.new.deals.items
     c.in-Some.line.now (lines c.in-Some.after.now) (lines c.loop-number.rest.now) result c.loop-number-test.true c.in-Some.ensures
-    c.in-Ok.ensures rest)
+    c.in_ok-take_line.ensures rest)
 
 pub returns-in_default : goal.returns-in_default
 returns-in_default c =
@@ -19,11 +20,12 @@ returns-in_default c =
     (ended_at c.loop-number.number c.loop-number.heading c.loop-number.deals.items (lines c.loop-number.rest.now)
     c.loop-number-test.true c.in_default.ensures))
 
-pub returns-in-Err : goal.returns-in-Err
-returns-in-Err c =
-    stopped c.loop-number.number c.loop-number.heading c.take_line.new.heading c.loop-number.deals.items c.take_line.new.deals.items
-    c.in-Some.line.now (lines c.in-Some.after.now) (lines c.loop-number.rest.now) (lines c.args.text.now) c.in-Err.fault
-    c.loop-number-test.true c.in-Some.ensures c.in-Err.ensures c.loop-number.invariant
+pub returns-in_err-take_line : goal.returns-in_err-take_line
+returns-in_err-take_line c =
+    let p = err_from_is_err_and c.from_residual.result c.from_residual.ensures.1 in
+    rw (p.1, p.2) (stopped c.loop-number.number c.loop-number.heading c.take_line.new.heading c.loop-number.deals.items c.take_line.new.deals.items
+    c.in-Some.line.now (lines c.in-Some.after.now) (lines c.loop-number.rest.now) (lines c.args.text.now) _
+    c.loop-number-test.true c.in-Some.ensures c.in_err-take_line.ensures c.loop-number.invariant)
 
 pub returns : goal.returns
 returns c =

@@ -15,8 +15,8 @@ there at h here = sym (cond-true _ _ _ (eq-eqb (place h.epoch) at here))
 
 pub returns-then-place_of-at : goal.returns-then-place_of-at
 returns-then-place_of-at c =
-    there c.args.at c.in-Some.header (sym c.place_of.ensures.place ∙ c.if-place_of-at.true) ∙ ap (placed c.args.at) c.in-Some.ensures
+    there c.args.at c.in_ok-header.header (sym c.place_of.ensures.place ∙ c.if-place_of-at.true) ∙ ap (placed c.args.at) c.in_ok-header.ensures
 
 pub returns-else-place_of-at : goal.returns-else-place_of-at
 returns-else-place_of-at c =
-    elsewhere c.args.at c.in-Some.header (λ here. c.if-place_of-at.false (c.place_of.ensures.place ∙ here)) ∙ ap (placed c.args.at) c.in-Some.ensures
+    elsewhere c.args.at c.in_ok-header.header (λ here. c.if-place_of-at.false (c.place_of.ensures.place ∙ here)) ∙ ap (placed c.args.at) c.in_ok-header.ensures
