@@ -82,11 +82,15 @@ fn read_lines(text: &[u8]) -> Result<Config, ConfigFault>
     requires { length text.now ≤ CONFIG_BYTES }
     ensures { ReadsAfterHeading (heading_in (lines text.now)) result }
 {
-    let (heading, rest) = read_heading(text)?;
-    let moved = read_movement(rest)?;
-    let pairs = moved.movement.shape().pairs;
-    let people = read_people(pairs, moved.number, moved.rest)?;
-    Ok(config_of(heading, moved.movement, people))
+    match read_heading(text) {
+        Ok((heading, rest)) => {
+            let moved = read_movement(rest)?;
+            let pairs = moved.movement.shape().pairs;
+            let people = read_people(pairs, moved.number, moved.rest)?;
+            Ok(config_of(heading, moved.movement, people))
+        }
+        Err(fault) => Err(fault),
+    }
 }
 
 /// Reads the first five lines.

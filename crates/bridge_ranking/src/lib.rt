@@ -11,6 +11,6 @@ mod scored;
 
 pub use even::equal_scores_gain_the_same;
 pub use field::Field;
-pub use gain::{has_field, lines_of};
+pub use gain::{average_for, has_field, lines_of, side_in};
 pub use game::{Game, PlayResult, games_of};
 pub use one_ranking::a_field_has_one_ranking;

@@ -3,7 +3,7 @@ pub mod board;
 pub mod cells;
 pub mod columns;
 mod diagram;
-mod event;
+pub mod event;
 pub(crate) mod frequencies;
 pub mod makeable;
 pub mod page;

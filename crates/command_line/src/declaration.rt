@@ -179,7 +179,7 @@ pub fn results_command<'a>(alloc: Global) -> Declared<'a>
     Declared::new(
         alloc,
         "results",
-        "Prints the rankings, travellers and score cards of the session on a disk; of several, as sections of one event",
+        "Prints rankings, travellers and score cards of the session on a disk; of several, the rankings and travellers of one event",
     )
     .argument(disks_argument(alloc))
     .argument(html_argument(alloc))

@@ -12,10 +12,7 @@ use clap::ArgMatches;
 fn list_of<'a>(names: &[&'a str]) -> Option<DiskNames<'a>>
     ensures { IfSome result (λ disks. disks.items ≡ names.now) }
 {
-    match ArrayVec::try_from(names) {
-        Ok(disks) => Some(disks),
-        Err(_) => None,
-    }
+    ArrayVec::try_from(names).ok()
 }
 
 /// The disks that are named, in their order.

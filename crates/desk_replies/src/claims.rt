@@ -55,10 +55,7 @@ impl SeenClaim {
 fn claim_of(play: Option<&Play>) -> Option<Claim>
     ensures { result ≡ option_and_then (λ play. play.claim) (option_copied play.entry) }
 {
-    match play {
-        Some(play) => play.claim(),
-        None => None,
-    }
+    play?.claim()
 }
 
 /// The claim in a play, if there is such a play and one stands in it or was agreed.
@@ -90,10 +87,7 @@ fn seen_of(session: &Session, view: &View<'_>) -> SeenClaim
 pub(crate) fn is_asked(session: &Session, key: Key) -> Result<bool, Refused>
     ensures { result ≡ is_asked session.now key.0 }
 {
-    match session.stage(key) {
-        Ok(stage) => Ok(stage.answer_due),
-        Err(refused) => Err(refused),
-    }
+    Ok(session.stage(key)?.answer_due)
 }
 
 /// Where the player of the key sits and the claims of the play that he is shown there, where he is shown one.

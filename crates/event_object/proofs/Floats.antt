@@ -22,7 +22,8 @@ use Rattle.results_object.specs.Object.{names_data, event_data}
 use Rattle.results_object.proofs.Floats.{IsPlain, both, list_plain, text_plain, number_plain, averages_plain, result_plain, gain_plain, deal_plain, total_plain, names_plain, event_plain}
 use Rattle.event_object.specs.Sections.{pair_data, pairs_data, section_data}
 use Rattle.event_object.specs.SectionPlays.{section_play_data}
-use Rattle.event_object.specs.SectionRankings.{unplaced, section_ranked_data, field_data}
+use Rattle.event_ranking.specs.EventRanking.{unplaced}
+use Rattle.event_object.specs.SectionRankings.{section_ranked_data, field_data}
 use Rattle.event_object.specs.EventObject.{available_on, board_data, event_results_data}
 
 pairs_plain : (configuration : ConfigValue) → IsPlain (pairs_data configuration)

@@ -2,17 +2,13 @@
 use Rattle.std.specs.Prelude.{◌-◌, List, [], ◌∷◌, codes, slice_get}
 use Rattle.std.specs.Option.{option_map_or}
 use Rattle.bridge_cards.specs.declared.scoring.Scoring.{Scoring}
-use Rattle.bridge_score.specs.declared.ranking.Ranked.{Ranked}
 use Rattle.session_rules.specs.State.{SessionValue}
 use Rattle.event_ranking.specs.declared.ranking.SectionRanked.{SectionRanked}
+use Rattle.event_ranking.specs.EventRanking.{unplaced}
 use Rattle.event_ranking.specs.EventText.{section_text}
 use Rattle.serde_json.specs.Data.{Data, null, object, member, no_members}
 use Rattle.results_object.specs.Values.{text_data, count_data, list_data}
 use Rattle.results_object.specs.Object.{names_data, total_data}
-
--- a pair without its place
-abbrev pub unplaced : SectionRanked → Ranked
-unplaced ranked = record { place = 0; pair = ranked.pair; value = ranked.value; available = ranked.available }
 
 -- the names of a pair, as its section's configuration has them
 abbrev pub names_on : List SessionValue → SectionRanked → Data

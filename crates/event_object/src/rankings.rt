@@ -3,12 +3,12 @@ ghost use Rattle.std.specs.Prelude.{◌≡◌, map, IfOk};
 ghost use Rattle.serde_json.specs.View.{view};
 ghost use Rattle.results_object.specs.Values.{IsValue, count_data, list_data};
 ghost use Rattle.results_object.specs.Object.{names_data, total_data};
-ghost use Rattle.event_object.specs.SectionRankings.{unplaced, names_on, section_ranked_data, field_data};
+ghost use Rattle.event_ranking.specs.EventRanking.{unplaced};
+ghost use Rattle.event_object.specs.SectionRankings.{names_on, section_ranked_data, field_data};
 
 use crate::sections::letters_value;
 use bridge_cards::Scoring;
 use bridge_config::Config;
-use bridge_score::Ranked;
 use bridge_session::Session;
 use event_ranking::SectionRanked;
 use results_object::builder::ObjectBuilder;
@@ -16,18 +16,6 @@ use results_object::rankings::{names_value, total_value};
 use results_object::values::{count_value, list_value};
 use serde_json::Value;
 use std::alloc::{AllocError, Global};
-
-/// A pair without its place.
-fn unplaced(ranked: &SectionRanked) -> Ranked
-    ensures { result ≡ unplaced ranked.now }
-{
-    Ranked {
-        place: 0,
-        pair: ranked.pair,
-        value: ranked.value,
-        available: ranked.available,
-    }
-}
 
 /// What a pair gained in all.
 fn section_total_value(
@@ -37,7 +25,7 @@ fn section_total_value(
 ) -> Result<Value, AllocError>
     ensures { IsValue (total_data scoring (unplaced ranked.now)) result }
 {
-    total_value(alloc, scoring, &unplaced(ranked))
+    total_value(alloc, scoring, &ranked.unplaced())
 }
 
 /// A place.

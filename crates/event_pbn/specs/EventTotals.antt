@@ -6,9 +6,9 @@ use Rattle.bridge_cards.specs.declared.scoring.Scoring.{Scoring}
 use Rattle.bridge_cards.specs.declared.scoring.Scoring.TheVariants.{MatchPoints, Imps}
 use Rattle.bridge_ranking.specs.declared.field.Field.{Field}
 use Rattle.bridge_ranking.specs.declared.field.Field.TheVariants.{First, Second}
-use Rattle.bridge_score.specs.declared.ranking.Ranked.{Ranked}
 use Rattle.session_rules.specs.State.{SessionValue}
 use Rattle.event_ranking.specs.declared.ranking.SectionRanked.{SectionRanked}
+use Rattle.event_ranking.specs.EventRanking.{unplaced}
 use Rattle.results_pbn.specs.Cells.{right_cell}
 use Rattle.results_pbn.specs.Totals.{section_text, value_cells, names_cell}
 use Rattle.event_pbn.specs.SectionCell.{section_cell}
@@ -18,10 +18,6 @@ unfoldable pub total_columns : Scoring → List ℕ
 total_columns MatchPoints =
     codes "[TotalScoreTable \"Section\\2L;Direction\\1L;Rank\\3R;PairId\\2R;TotalScoreMP\\7R;TotalPercentage\\6R;Names\"]\n"
 total_columns Imps = codes "[TotalScoreTable \"Section\\2L;Direction\\1L;Rank\\3R;PairId\\2R;TotalIMP\\7R;Names\"]\n"
-
--- a pair without its place
-abbrev pub unplaced : SectionRanked → Ranked
-unplaced ranked = record { place = 0; pair = ranked.pair; value = ranked.value; available = ranked.available }
 
 -- the section's letters; N for the first field and E for the second, or a dash where no section has two; the place among all pairs of
 -- the field, and the pair

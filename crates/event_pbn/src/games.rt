@@ -10,10 +10,11 @@ use bridge_cards::{BoardNumber, Scoring};
 use bridge_config::Config;
 use bridge_ranking::Field;
 use bridge_results::Makeable;
+use bridge_results::pages::makeable::makeable_on;
 use event_ranking::{SectionRanked, first_deal};
 use event_results::{EventResults, SectionPlay};
 use line_text::write_text;
-use results_pbn::optimum::{makeable_on, write_known};
+use results_pbn::optimum::write_known;
 use results_pbn::tags::write_head;
 use std::io::{Error, Write};
 

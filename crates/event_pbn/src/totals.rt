@@ -3,13 +3,12 @@ ghost use Rattle.std.specs.Prelude.{◌≡◌, ◌≤◌, flat_map};
 ghost use Rattle.arrayvec.specs.ArrayVec.{array_vec_len};
 ghost use Rattle.line_text.specs.Streams.{stream, Written};
 ghost use Rattle.results_pbn.specs.Totals.{names_cell};
-ghost use Rattle.event_pbn.specs.EventTotals.{total_columns, unplaced, place_cells, names_on, total_row, has_any, total_table};
+ghost use Rattle.event_pbn.specs.EventTotals.{total_columns, place_cells, names_on, total_row, has_any, total_table};
 
 use crate::cells::section_cell;
 use bridge_cards::Scoring;
 use bridge_config::Config;
 use bridge_ranking::Field;
-use bridge_score::Ranked;
 use bridge_session::Session;
 use event_ranking::SectionRanked;
 use line_text::{number_text, write_text};
@@ -17,18 +16,6 @@ use page_layout::{PageText, push_bytes};
 use results_pbn::cells::push_right_cell;
 use results_pbn::totals::{names_cell, section_text, value_cells};
 use std::io::{Error, Write};
-
-/// A pair without its place.
-fn unplaced(ranked: &SectionRanked) -> Ranked
-    ensures { result ≡ unplaced ranked.now }
-{
-    Ranked {
-        place: 0,
-        pair: ranked.pair,
-        value: ranked.value,
-        available: ranked.available,
-    }
-}
 
 /// The section, the direction, the place and the pair.
 #[tactic(auto, unfolding(crate::specs::EventTotals::place_cells))]
@@ -78,7 +65,7 @@ fn total_row(
     let mut text = place_cells(two, field, ranked);
     push_bytes(
         &mut text,
-        value_cells(7, scoring, &unplaced(ranked)).as_slice(),
+        value_cells(7, scoring, &ranked.unplaced()).as_slice(),
     );
     push_bytes(&mut text, names_on(sections, ranked).as_slice());
     text

@@ -19,7 +19,7 @@ use Rattle.bridge_results.specs.declared.pages.columns.TheConstants.{SHARE_COLUM
 use Rattle.event_ranking.specs.declared.ranking.SectionRanked.{SectionRanked}
 use Rattle.event_ranking.specs.declared.sheet.Among.{Among}
 use Rattle.event_ranking.specs.declared.sheet.Among.TheVariants.{Event, Section}
-use Rattle.event_ranking.specs.EventRanking.{scoring_of}
+use Rattle.event_ranking.specs.EventRanking.{scoring_of, unplaced}
 
 -- the last letter of a section: A to Z in turn
 abbrev pub last_letter : ℕ → ℕ
@@ -32,7 +32,7 @@ section_text section =
 
 -- the share of a pair in hundredths of a per cent, where it is one
 abbrev pub share_of : SectionRanked → Option ℕ
-share_of ranked = share_percent (record { place = 0; pair = ranked.pair; value = ranked.value; available = ranked.available })
+share_of ranked = share_percent (unplaced ranked)
 
 -- the section and the number of a pair
 abbrev pub pair_text : SectionRanked → List ℕ

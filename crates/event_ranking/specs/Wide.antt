@@ -8,7 +8,7 @@ use Rattle.bridge_ranking.specs.Ranking.{games_of, scores_on}
 use Rattle.session_rules.specs.State.{SessionValue}
 use Rattle.event_ranking.specs.Joint.{joint}
 
--- the plays of a section: as many as a session may have, each of a board
+-- the plays of a section: at most as many as a session may have, each of a board
 pub record AreOfSection (games : List Game) : Type 0 where
   pub most : length games ≤ 432
   pub boards : All (λ game. IsBoard game.board) games

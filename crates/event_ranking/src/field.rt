@@ -92,9 +92,7 @@ pub fn field_of(sections: &[Session]) -> Result<(), SectionsRefused>
     ensures refused { IfErr result (IsFirstRefusal sections.now) }
 {
     for index in 0..sections.len() {
-        if let Err(refused) = judge(sections, index) {
-            return Err(refused);
-        }
+        judge(sections, index)?;
     }
     Ok(())
 }

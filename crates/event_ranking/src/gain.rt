@@ -2,13 +2,13 @@
 ghost use Rattle.std.specs.Prelude.{◌≡◌, ◌≤◌, ◌<◌, ◌*◌, ◌-◌, length, map, position, sum_by, pos, neg_ℤ, ◌-ℤ◌, ◌≤ℤ◌};
 ghost use Rattle.std.specs.Ordering.{int_eq};
 ghost use Rattle.bridge_score.specs.Comparison.{int_sum_by, matchpoints_against, matchpoints_of, imps_against, cross_imps_of};
-ghost use Rattle.bridge_ranking.specs.Ranking.{score_for, gain_at, gain_of, available_of, award, average_for, gained};
+ghost use Rattle.bridge_ranking.specs.Ranking.{score_for, gain_at, gain_of, available_of, award, gained};
 ghost use Rattle.bridge_ranking.specs.Gains.{IsGainWithin};
 ghost use Rattle.event_ranking.specs.Joint.{other_gain};
 
 use bridge_cards::{Scoring, Side};
-use bridge_ranking::PlayResult;
-use bridge_score::imps;
+use bridge_ranking::{PlayResult, average_for};
+use bridge_score::imps_against;
 use session_rules::Average;
 
 /// The most scores of a board: 40 sections have 432 plays each.
@@ -49,16 +49,6 @@ fn matchpoints(scores: &[i32], index: usize) -> u32
 {
     let own = scores[index];
     matchpoints_over(own, &scores[..index]) + matchpoints_over(own, &scores[index + 1..])
-}
-
-/// The IMPs against one other score, below 0 where that is greater (Law 78B).
-fn imps_against(own: i32, other: i32) -> i32
-    ensures value { result ≡ imps_against own other }
-    ensures least { neg_ℤ (pos 24) ≤ℤ result }
-    ensures most { result ≤ℤ pos 24 }
-{
-    let imps = i32::from(imps(own.abs_diff(other)));
-    if own < other { -imps } else { imps }
 }
 
 /// The sum of the IMPs against those scores.
@@ -164,16 +154,6 @@ fn award(scoring: Scoring, average: Average, available: u32) -> i32
     match scoring {
         Scoring::MatchPoints => (u32::from(average.percent()) * available / 100) as i32,
         Scoring::Imps => 0,
-    }
-}
-
-/// The average that a side is awarded.
-fn average_for(side: Side, ns: Average, ew: Average) -> Average
-    ensures { result ≡ average_for side ns ew }
-{
-    match side {
-        Side::NorthSouth => ns,
-        Side::EastWest => ew,
     }
 }
 

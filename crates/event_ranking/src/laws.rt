@@ -1,4 +1,4 @@
-//! That the scoring across sections is today's where there is one section.
+//! That the scoring across sections is a session's own where there is one section.
 ghost use Rattle.std.specs.Prelude.{◌≡◌, ◌∷◌, [], ℕ, List, map};
 ghost use Rattle.bridge_cards.specs.declared.scoring.Scoring.{Scoring as ScoringType};
 ghost use Rattle.bridge_ranking.specs.declared.game.Game.{Game as GameType};

@@ -1,7 +1,7 @@
 //! What a pair gains in its own section's plays against the scores of all sections.
 ghost use Rattle.std.specs.Prelude.{◌≡◌, ◌≤◌};
 ghost use Rattle.bridge_cards.specs.Board.{IsBoard};
-ghost use Rattle.bridge_ranking.specs.Ranking.{scores_on, gained, available_of, side_in, value_in, available_in};
+ghost use Rattle.bridge_ranking.specs.Ranking.{scores_on, gained, available_of, value_in, available_in};
 ghost use Rattle.bridge_ranking.specs.Gains.{IsGainWithin};
 ghost use Rattle.event_ranking.specs.Joint.{joint, joint_line};
 ghost use Rattle.event_ranking.specs.Wide.{AreOfSection};
@@ -9,7 +9,7 @@ ghost use Rattle.event_ranking.specs.Wide.{AreOfSection};
 use crate::gain::{available_of, gained};
 use crate::wide::WideScores;
 use bridge_cards::{Scoring, Side};
-use bridge_ranking::Game;
+use bridge_ranking::{Game, side_in};
 use bridge_score::Line;
 
 /// What a pair gained, and what was available to it.
@@ -19,19 +19,6 @@ struct Gain {
     value: i32,
     /// What was available, in tenths of matchpoints.
     available: u32,
-}
-
-/// The side on which a pair played.
-fn side_in(pair: u8, game: Game) -> Option<Side>
-    ensures { result ≡ side_in pair game }
-{
-    if game.ns == pair {
-        Some(Side::NorthSouth)
-    } else if game.ew == pair {
-        Some(Side::EastWest)
-    } else {
-        None
-    }
 }
 
 /// What a side gains in a play, and what is available to it.

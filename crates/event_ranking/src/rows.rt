@@ -11,7 +11,7 @@ use arrayvec::ArrayString;
 use bridge_cards::Scoring;
 use bridge_config::{NAMES_BYTES, PairFields, pair_names};
 use bridge_results::pages::columns::{SHARE_COLUMNS, SUM_COLUMNS};
-use bridge_score::{Ranked, share_percent};
+use bridge_score::share_percent;
 use line_text::{NumberText, number_text, percent_text, signed_text, tenths_text};
 use page_layout::{Format, PageText, push_row, push_titles};
 
@@ -46,12 +46,7 @@ fn pair_cell(ranked: &SectionRanked) -> ArrayString<32>
 fn share_of(ranked: &SectionRanked) -> Option<u32>
     ensures { result ≡ share_of ranked.now }
 {
-    share_percent(&Ranked {
-        place: 0,
-        pair: ranked.pair,
-        value: ranked.value,
-        available: ranked.available,
-    })
+    share_percent(&ranked.unplaced())
 }
 
 /// The row of a pair by matchpoints.

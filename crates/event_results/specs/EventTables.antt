@@ -5,7 +5,6 @@ use Rattle.std.specs.List.{range_with_len}
 use Rattle.std.specs.Option.{option_map_or}
 use Rattle.std.specs.Fmt.{decimal}
 use Rattle.bridge_cards.specs.declared.scoring.Scoring.{Scoring}
-use Rattle.bridge_score.specs.declared.ranking.Ranked.{Ranked}
 use Rattle.bridge_config.specs.ConfigValue.{Pair, player_name}
 use Rattle.bridge_ranking.specs.declared.field.Field.{Field}
 use Rattle.bridge_ranking.specs.declared.field.Field.TheVariants.{First, Second}
@@ -13,7 +12,7 @@ use Rattle.session_rules.specs.State.{SessionValue}
 use Rattle.line_text.specs.Streams.{Stream, Written}
 use Rattle.bridge_results.specs.TablesText.{after_comma, play_row as row_in_section, field_number, value_fields}
 use Rattle.event_ranking.specs.declared.ranking.SectionRanked.{SectionRanked}
-use Rattle.event_ranking.specs.EventRanking.{scoring_of, IsFieldRanking}
+use Rattle.event_ranking.specs.EventRanking.{scoring_of, unplaced, IsFieldRanking}
 use Rattle.event_ranking.specs.EventText.{section_text}
 use Rattle.event_results.specs.declared.play.SectionPlay.{SectionPlay}
 use Rattle.event_results.specs.EventTraveller.{event_traveller}
@@ -50,10 +49,6 @@ plays_table sections = play_titles ++ all_rows sections
 unfoldable pub ranking_titles : List ℕ
 ranking_titles = codes "section,field,place,pair,first_player,second_player,score,available,percent\r\n"
 
--- what a pair gained, whatever its place
-abbrev pub gain_of : SectionRanked → Ranked
-gain_of ranked = record { place = 0; pair = ranked.pair; value = ranked.value; available = ranked.available }
-
 -- the section, the field, the place, the pair, and the names of its players
 unfoldable pub pair_fields : List Pair → Field → SectionRanked → List ℕ
 pair_fields pairs field ranked =
@@ -63,7 +58,7 @@ pair_fields pairs field ranked =
 -- a pair's row, with its names among these pairs of its section
 unfoldable pub ranked_fields : Scoring → List Pair → Field → SectionRanked → List ℕ
 ranked_fields scoring pairs field ranked =
-    (pair_fields pairs field ranked ++ value_fields scoring (gain_of ranked)) ++ codes "\r\n"
+    (pair_fields pairs field ranked ++ value_fields scoring (unplaced ranked)) ++ codes "\r\n"
 
 -- the pairs of a section, as its configuration has them
 abbrev pub pairs_of : List SessionValue → ℕ → List Pair

@@ -9,13 +9,14 @@ ghost use Rattle.results_pbn.specs.Scores.{score_table};
 ghost use Rattle.results_pbn.specs.Totals.{seen, totals_on};
 ghost use Rattle.results_pbn.specs.Games.{head_text, board_start, board_tables, board_game, played_game, game_on, all_games, results_games, AreTotals, WritesGames};
 
-use crate::optimum::{makeable_on, write_known};
+use crate::optimum::write_known;
 use crate::scores::write_scores;
 use crate::tags::write_head;
 use crate::totals::{Totals, first_board, write_totals};
 use bridge_cards::BoardNumber;
 use bridge_config::Config;
 use bridge_ranking::Field;
+use bridge_results::pages::makeable::makeable_on;
 use bridge_results::{BoardLine, Makeable, Results};
 use bridge_session::Session;
 use line_text::write_text;

@@ -1,7 +1,6 @@
 //! What could be made on a board.
 ghost use Rattle.std.specs.Prelude.{◌≡◌};
 ghost use Rattle.line_text.specs.Streams.{stream, Written};
-ghost use Rattle.bridge_results.specs.MakeableText.{makeable_on};
 ghost use Rattle.results_pbn.specs.Optimum.{optimum_tags, known_tags};
 
 use bridge_cards::{BoardNumber, dealer, vulnerability_of};
@@ -32,13 +31,6 @@ fn write_optimum<W: Write>(
     ensures { Written (stream W.contents writer.old writer.new) (optimum_tags board known.now.table) result }
 {
     write_text(writer, optimum_tags(board, known).as_slice())
-}
-
-/// What could be made on a board, if it is known.
-pub fn makeable_on(boards: &[Option<Makeable>], board: BoardNumber) -> Option<Makeable>
-    ensures { result ≡ makeable_on boards.now board }
-{
-    *boards.get(usize::from(board.number() - 1))?
 }
 
 /// Writes what could be made on a board, if it is known.

@@ -11,7 +11,7 @@ use line_text::number_text;
 use page_layout::{Format, Level, PageText, push_heading, push_page_start, push_paragraph};
 
 /// How scores are compared.
-fn scoring_words(scoring: Scoring) -> &'static str
+pub fn scoring_words(scoring: Scoring) -> &'static str
     ensures text { result.now ≡ scoring_words scoring }
     ensures short { length result.now ≤ 11 }
 {
@@ -21,8 +21,8 @@ fn scoring_words(scoring: Scoring) -> &'static str
     }
 }
 
-/// Where and when the session was held.
-fn place_words(site: &str, date: &str) -> ArrayString<40>
+/// Where and when a session was held.
+pub fn place_words(site: &str, date: &str) -> ArrayString<40>
     requires site { length site.now ≤ 24 }
     requires date { length date.now ≤ 10 }
     ensures text { result.bytes ≡ place_words site.now date.now }

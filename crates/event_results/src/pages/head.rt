@@ -1,38 +1,12 @@
 //! The head of the page: which event was played where and when, how, and in how many sections.
 ghost use Rattle.std.specs.Prelude.{◌≡◌, ◌≤◌, length};
-ghost use Rattle.bridge_results.specs.EventText.{scoring_words, place_words};
 ghost use Rattle.event_results.specs.EventHead.{count_words, event_head};
 
 use arrayvec::ArrayString;
-use bridge_cards::Scoring;
 use bridge_config::Config;
+use bridge_results::pages::event::{place_words, scoring_words};
 use line_text::number_text;
 use page_layout::{Format, Level, PageText, push_heading, push_page_start, push_paragraph};
-
-/// How scores are compared.
-fn scoring_words(scoring: Scoring) -> &'static str
-    ensures text { result.now ≡ scoring_words scoring }
-    ensures short { length result.now ≤ 11 }
-{
-    match scoring {
-        Scoring::MatchPoints => "Matchpoints",
-        Scoring::Imps => "IMPs",
-    }
-}
-
-/// Where and when the sessions were held.
-fn place_words(site: &str, date: &str) -> ArrayString<40>
-    requires site { length site.now ≤ 24 }
-    requires date { length date.now ≤ 10 }
-    ensures text { result.bytes ≡ place_words site.now date.now }
-    ensures short { length result.bytes ≤ 40 }
-{
-    let mut text = ArrayString::new();
-    text.push_str(site);
-    text.push_str(", ");
-    text.push_str(date);
-    text
-}
 
 /// How many sections there are.
 fn count_words(sections: u32) -> ArrayString<40>

@@ -5,7 +5,7 @@ ghost use Rattle.line_text.specs.Streams.{stream, Written};
 ghost use Rattle.bridge_config.specs.ConfigValue.{pair_of};
 ghost use Rattle.bridge_ranking.specs.declared.field.Field.TheVariants.{First, Second};
 ghost use Rattle.event_ranking.specs.EventRanking.{scoring_of};
-ghost use Rattle.event_results.specs.EventTables.{gain_of, pair_fields, ranked_fields, ranked_row, field_rows, ranking_titles, rankings_table, WritesEventRankings};
+ghost use Rattle.event_results.specs.EventTables.{pair_fields, ranked_fields, ranked_row, field_rows, ranking_titles, rankings_table, WritesEventRankings};
 
 use crate::results::EventResults;
 use crate::tables::section::section_field;
@@ -14,24 +14,11 @@ use bridge_config::{Config, PairFields, player_name};
 use bridge_ranking::Field;
 use bridge_results::tables::fields::{push_field, push_number};
 use bridge_results::tables::rankings::{field_number, value_fields};
-use bridge_score::Ranked;
 use bridge_session::Session;
 use event_ranking::{SectionRanked, scoring_of};
 use line_text::{number_text, write_text};
 use page_layout::{PageText, push_bytes};
 use std::io::{Error, Write};
-
-/// What a pair gained, whatever its place.
-fn gain_of(ranked: &SectionRanked) -> Ranked
-    ensures { result ≡ gain_of ranked.now }
-{
-    Ranked {
-        place: 0,
-        pair: ranked.pair,
-        value: ranked.value,
-        available: ranked.available,
-    }
-}
 
 /// The section, the field, the place, the pair, and the names of its players.
 #[tactic(auto, unfolding(crate::specs::EventTables::pair_fields))]
@@ -64,7 +51,7 @@ fn ranked_fields(
     let mut text = pair_fields(pairs, field, ranked);
     push_bytes(
         &mut text,
-        value_fields(scoring, &gain_of(ranked)).as_slice(),
+        value_fields(scoring, &ranked.unplaced()).as_slice(),
     );
     push_bytes(&mut text, b"\r\n");
     text

@@ -5,6 +5,6 @@ use Rattle.bridge_config.proofs.reading.read_lines.Goals as goal
 
 pub config_of-requires : goal.config_of-requires
 config_of-requires c =
-    let people = rw c.shape-pairs.ensures.shape at c.in_ok-people.ensures in
-    (people_read_spelled c.args.text.now (view_of_heading c.in_ok-heading.heading, lines c.in_ok-heading.rest.now) (view_of_moved c.in_ok-moved.moved) (view_of_people c.in_ok-people.people)
-    c.requires c.in_ok-heading.ensures c.in_ok-moved.ensures.movement people).limits
+    let people = rw c.shape-pairs.ensures.shape at c.in_ok-people-in-Ok.ensures in
+    (people_read_spelled c.args.text.now (view_of_heading c.in-Ok.heading, lines c.in-Ok.rest.now) (view_of_moved c.in_ok-moved-in-Ok.moved) (view_of_people c.in_ok-people-in-Ok.people)
+    c.requires c.in-Ok.ensures c.in_ok-moved-in-Ok.ensures.movement people).limits
