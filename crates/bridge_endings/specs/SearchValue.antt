@@ -1,5 +1,5 @@
 -- What the answers of a search say, and what its table says.
-use Rattle.std.specs.Prelude.{◌≡◌, ℕ, ◌*◌, ◌<◌, ◌≤◌, Bool, List, [], length, All, Option}
+use Rattle.std.specs.Prelude.{◌≡◌, ℕ, ◌-◌, ◌*◌, ◌<◌, ◌≤◌, Bool, List, [], ◌∷◌, ◌++◌, length, All, Option}
 use Rattle.bridge_cards.specs.declared.suit.Suit.{Suit}
 use Rattle.bridge_cards.specs.declared.seat.Seat.{Seat}
 use Rattle.bridge_cards.specs.CardSet.{has_card}
@@ -10,7 +10,8 @@ use Rattle.bridge_endings.specs.declared.found.Told.{Told}
 use Rattle.bridge_endings.specs.declared.found.Told.TheVariants.{Answer as TheAnswer, Open, Other}
 use Rattle.bridge_endings.specs.declared.entry.Entry.{Entry}
 use Rattle.bridge_endings.specs.declared.search.Search.{Search}
-use Rattle.bridge_endings.specs.Worth.{dealt, worth_with}
+use Rattle.bridge_endings.specs.TrickValue.{TrickValue}
+use Rattle.bridge_endings.specs.Worth.{after_playing, dealt, worth_with}
 use Rattle.bridge_endings.specs.Agree.{IsDealtOut, IsUpward, Agree, Settles}
 use Rattle.bridge_endings.specs.Left.{all_lengths}
 use Rattle.bridge_endings.specs.Between.{IsBounded}
@@ -25,6 +26,16 @@ pub record GoesOn (old new : Search) : Type 0 where
 pub record IsAnswer (trump : Option Suit) (cards need : ℕ) (answer : Answer) (held : Seat → ℕ → Bool) (leader : Seat) (trick : List ℕ) : Type 0 where
   pub upward : IsUpward (has_card answer.counts)
   pub settled : Settles trump cards need (has_card answer.counts) answer.yes held leader trick
+
+-- the answer in a trick, the first of so many that are left, with these cards in the hands
+abbrev pub IsAnswerAt : Option Suit → ℕ → ℕ → (Seat → ℕ → Bool) → TrickValue → Answer → Type 0
+IsAnswerAt trump tricks need held trick answer =
+    IsAnswer trump (4 * tricks - length trick.cards) need answer held trick.leader trick.cards
+
+-- the answer once a card was played to it
+abbrev pub IsAnswerWith : Option Suit → ℕ → ℕ → (Seat → ℕ → Bool) → TrickValue → ℕ → Answer → Type 0
+IsAnswerWith trump tricks need held trick card answer =
+    IsAnswer trump (4 * tricks - length trick.cards - 1) need answer (after_playing card held) trick.leader (trick.cards ++ card ∷ [])
 
 -- the answer to what is asked of hands at the start of a trick
 abbrev pub IsAnswerTo : Asked → Answer → Type 0

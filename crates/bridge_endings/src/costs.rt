@@ -145,7 +145,7 @@ fn play(search: &mut Search, table: &mut [Entry], moment: &Moment, card: Card, b
 }
 
 /// What each of these cards costs in a deal that begins with them; `None` where one of them may not be played.
-pub fn costs_in_all(
+pub(crate) fn costs_in_all(
     search: &mut Search,
     table: &mut [Entry],
     hands: &[CardSet; 4],

@@ -1,10 +1,10 @@
 //! Whether North and South win at least so many of the tricks left.
-ghost use Rattle.std.specs.Prelude.{◌≡◌, ℕ, ◌-◌, ◌*◌, ◌<◌, ◌≤◌, length, MatchBool, IsTrue, IfSome, IsNone, IsSome, ◌++◌, ◌∷◌, []};
+ghost use Rattle.std.specs.Prelude.{◌≡◌, ◌-◌, ◌*◌, ◌<◌, ◌≤◌, length, MatchBool, IsTrue, IfSome, IsNone, IsSome, []};
 ghost use Rattle.bridge_cards.specs.Seat.{side_of};
-ghost use Rattle.bridge_endings.specs.Worth.{after_playing, dealt, trick_for};
+ghost use Rattle.bridge_endings.specs.Worth.{dealt, trick_for};
 ghost use Rattle.bridge_endings.specs.Left.{left_to, is_sought, IsForegone};
 ghost use Rattle.bridge_endings.specs.Agree.{IsDealtOut};
-ghost use Rattle.bridge_endings.specs.SearchValue.{GoesOn, IsAnswer, IsTable};
+ghost use Rattle.bridge_endings.specs.SearchValue.{GoesOn, IsAnswer, IsAnswerAt, IsAnswerWith, IsTable};
 
 use crate::answer::{Answer, all_tried, still_to_try, upwards, without_cards};
 use crate::asked::Asked;
@@ -31,8 +31,7 @@ impl Search {
     ) -> Option<Answer>
         requires part { (length trick.now.cards < 4) × (length trick.now.cards ≤ 4 * tricks) }
         requires given { (trick.now.trump ≡ self.old.trump) × IsTable table.old × IsDealtOut (left_to hands.now left) }
-        ensures answer { IfSome result (λ answer. IsAnswer self.old.trump (4 * tricks - length trick.now.cards) need answer
-            (left_to hands.now left) trick.now.leader trick.now.cards) }
+        ensures answer { IfSome result (IsAnswerAt self.old.trump tricks need (left_to hands.now left) trick.now) }
         ensures ended { IsNone result → IsSome self.old.limit }
         ensures later { GoesOn self.old self.new }
         ensures table { IsTable table.new }
@@ -193,8 +192,7 @@ impl Search {
     ) -> Option<Answer>
         requires part { (length trick.now.cards < 4) × (length trick.now.cards ≤ 4 * tricks) }
         requires given { (trick.now.trump ≡ self.old.trump) × IsTable table.old × IsDealtOut (left_to hands.now left) }
-        ensures answer { IfSome result (λ answer. IsAnswer self.old.trump (4 * tricks - length trick.now.cards) need answer
-            (left_to hands.now left) trick.now.leader trick.now.cards) }
+        ensures answer { IfSome result (IsAnswerAt self.old.trump tricks need (left_to hands.now left) trick.now) }
         ensures ended { IsNone result → IsSome self.old.limit }
         ensures later { GoesOn self.old self.new }
         ensures table { IsTable table.new }
@@ -236,8 +234,7 @@ impl Search {
         requires part { (length trick.now.cards < 4) × (0 < tricks) }
         requires trump { trick.now.trump ≡ self.old.trump }
         requires given { IsTable table.old × IsDealtOut (left_to hands.now left) }
-        ensures answer { IfSome result (λ answer. IsAnswer self.old.trump (4 * tricks - length trick.now.cards - 1) need answer
-            (after_playing card (left_to hands.now left)) trick.now.leader (trick.now.cards ++ card ∷ [])) }
+        ensures answer { IfSome result (IsAnswerWith self.old.trump tricks need (left_to hands.now left) trick.now card) }
         ensures ended { IsNone result → IsSome self.old.limit }
         ensures later { GoesOn self.old self.new }
         ensures table { IsTable table.new }

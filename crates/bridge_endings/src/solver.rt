@@ -85,7 +85,7 @@ fn worth_by(ending: &Ending, search: &mut Search) -> u8
 
 /// The tricks of North and South by a search of so many, which is asked for a guess first, and then for one more or one less;
 /// `None` where as many cards were tried as may be.
-pub fn tricks_won(
+pub(crate) fn tricks_won(
     search: &mut Search,
     table: &mut [Entry],
     hands: &[CardSet; 4],

@@ -1,8 +1,7 @@
 //! The columns of a traveller over all sections.
-ghost use Rattle.std.specs.Prelude.{◌≡◌, ◌≤◌, ◌∷◌, [], map};
-ghost use Rattle.page_layout.specs.declared.format.Column.{Column as ColumnType};
+ghost use Rattle.std.specs.Prelude.{◌≡◌, ◌≤◌, ◌∷◌, []};
 ghost use Rattle.page_layout.specs.declared.format.Content.TheVariants.{Words, Cards};
-ghost use Rattle.bridge_results.specs.Columns.{width_of};
+ghost use Rattle.bridge_results.specs.Columns.{width_of, contents_of};
 ghost use Rattle.event_results.specs.declared.columns.TheConstants.{LINE_COLUMNS as line_columns};
 
 use page_layout::columns::{LETTERS, NUMBER, SMALL};
@@ -48,5 +47,5 @@ pub fn travellers_are_narrow()
 
 /// Contracts and leads stand in columns in which the letters S, H, D and C are suits; sections, seats and numbers do not.
 pub fn suits_stand_in_columns_of_cards()
-    ensures { map (λ (column : ColumnType). column.content) line_columns ≡ Words ∷ Words ∷ Words ∷ Words ∷ Words ∷ Cards ∷ Words ∷ Cards ∷ Words ∷ Words ∷ Words ∷ Words ∷ [] }
+    ensures { contents_of line_columns ≡ Words ∷ Words ∷ Words ∷ Words ∷ Words ∷ Cards ∷ Words ∷ Cards ∷ Words ∷ Words ∷ Words ∷ Words ∷ [] }
 {}

@@ -1,7 +1,7 @@
 //! The columns of the tables of an HTML page.
-ghost use Rattle.std.specs.Prelude.{◌≡◌, ◌∷◌, [], map};
-ghost use Rattle.page_layout.specs.declared.format.Column.{Column as ColumnType};
+ghost use Rattle.std.specs.Prelude.{◌≡◌, ◌∷◌, []};
 ghost use Rattle.page_layout.specs.declared.format.Content.TheVariants.{Words, Cards};
+ghost use Rattle.bridge_results.specs.Columns.{contents_of};
 ghost use Rattle.bridge_results.specs.declared.html.columns.TheConstants.{SHARE_LINE_COLUMNS as share_line_columns, SUM_LINE_COLUMNS as sum_line_columns, SHARE_CARD_COLUMNS as share_card_columns, SUM_CARD_COLUMNS as sum_card_columns, CALL_COLUMNS as call_columns, TRICK_COLUMNS as trick_columns};
 
 use page_layout::{Align, Column, Content};
@@ -58,10 +58,10 @@ pub const TRICK_COLUMNS: [Column; 7] = [NUMBERS, WORDS, CARDS, CARDS, CARDS, CAR
 /// Calls, contracts, leads and the cards of tricks stand in columns in which the letters S, H, D and C are suits; seats, sides,
 /// names and numbers do not.
 pub fn html_suits_stand_in_columns_of_cards()
-    ensures share_line { map (λ (column : ColumnType). column.content) share_line_columns ≡ Words ∷ Words ∷ Cards ∷ Words ∷ Cards ∷ Words ∷ Words ∷ Words ∷ Words ∷ Words ∷ [] }
-    ensures sum_line { map (λ (column : ColumnType). column.content) sum_line_columns ≡ Words ∷ Words ∷ Cards ∷ Words ∷ Cards ∷ Words ∷ Words ∷ Words ∷ [] }
-    ensures share_card { map (λ (column : ColumnType). column.content) share_card_columns ≡ Words ∷ Words ∷ Words ∷ Words ∷ Cards ∷ Words ∷ Words ∷ Words ∷ Words ∷ [] }
-    ensures sum_card { map (λ (column : ColumnType). column.content) sum_card_columns ≡ Words ∷ Words ∷ Words ∷ Words ∷ Cards ∷ Words ∷ Words ∷ Words ∷ [] }
-    ensures calls { map (λ (column : ColumnType). column.content) call_columns ≡ Cards ∷ Cards ∷ Cards ∷ Cards ∷ [] }
-    ensures tricks { map (λ (column : ColumnType). column.content) trick_columns ≡ Words ∷ Words ∷ Cards ∷ Cards ∷ Cards ∷ Cards ∷ Words ∷ [] }
+    ensures share_line { contents_of share_line_columns ≡ Words ∷ Words ∷ Cards ∷ Words ∷ Cards ∷ Words ∷ Words ∷ Words ∷ Words ∷ Words ∷ [] }
+    ensures sum_line { contents_of sum_line_columns ≡ Words ∷ Words ∷ Cards ∷ Words ∷ Cards ∷ Words ∷ Words ∷ Words ∷ [] }
+    ensures share_card { contents_of share_card_columns ≡ Words ∷ Words ∷ Words ∷ Words ∷ Cards ∷ Words ∷ Words ∷ Words ∷ Words ∷ [] }
+    ensures sum_card { contents_of sum_card_columns ≡ Words ∷ Words ∷ Words ∷ Words ∷ Cards ∷ Words ∷ Words ∷ Words ∷ [] }
+    ensures calls { contents_of call_columns ≡ Cards ∷ Cards ∷ Cards ∷ Cards ∷ [] }
+    ensures tricks { contents_of trick_columns ≡ Words ∷ Words ∷ Cards ∷ Cards ∷ Cards ∷ Cards ∷ Words ∷ [] }
 {}

@@ -1,9 +1,8 @@
 //! The columns of the tables.
-ghost use Rattle.std.specs.Prelude.{◌≡◌, ◌≤◌, ◌∷◌, [], map};
-ghost use Rattle.page_layout.specs.declared.format.Column.{Column as ColumnType};
+ghost use Rattle.std.specs.Prelude.{◌≡◌, ◌≤◌, ◌∷◌, []};
 ghost use Rattle.page_layout.specs.declared.format.Content.TheVariants.{Words, Cards};
 ghost use Rattle.bridge_results.specs.declared.pages.columns.TheConstants.{SHARE_COLUMNS as share_columns, SUM_COLUMNS as sum_columns, LINE_COLUMNS as line_columns, FREQUENCY_COLUMNS as frequency_columns, CARD_COLUMNS as card_columns, HAND_COLUMNS as hand_columns, MAKEABLE_COLUMNS as makeable_columns};
-ghost use Rattle.bridge_results.specs.Columns.{width_of};
+ghost use Rattle.bridge_results.specs.Columns.{width_of, contents_of};
 
 use page_layout::columns::{LETTERS, NUMBER, SMALL};
 use page_layout::{Align, Column, Content};
@@ -88,13 +87,13 @@ pub const MAKEABLE_COLUMNS: [Column; 6] = [SEAT, SMALL, SMALL, SMALL, SMALL, SMA
 /// Contracts, leads and the cards of hands stand in columns in which the letters S, H, D and C are suits, and nothing else of
 /// these tables does.
 pub fn suits_stand_in_columns_of_cards()
-    ensures shares { map (λ (column : ColumnType). column.content) share_columns ≡ Words ∷ Words ∷ Words ∷ Words ∷ Words ∷ Words ∷ [] }
-    ensures sums { map (λ (column : ColumnType). column.content) sum_columns ≡ Words ∷ Words ∷ Words ∷ Words ∷ [] }
-    ensures traveller { map (λ (column : ColumnType). column.content) line_columns ≡ Words ∷ Words ∷ Words ∷ Words ∷ Cards ∷ Words ∷ Cards ∷ Words ∷ Words ∷ Words ∷ Words ∷ [] }
-    ensures frequencies { map (λ (column : ColumnType). column.content) frequency_columns ≡ Words ∷ Words ∷ Words ∷ Words ∷ [] }
-    ensures card { map (λ (column : ColumnType). column.content) card_columns ≡ Words ∷ Words ∷ Words ∷ Words ∷ Cards ∷ Words ∷ Words ∷ Words ∷ Words ∷ [] }
-    ensures hands { map (λ (column : ColumnType). column.content) hand_columns ≡ Cards ∷ Cards ∷ Cards ∷ [] }
-    ensures makeable { map (λ (column : ColumnType). column.content) makeable_columns ≡ Words ∷ Words ∷ Words ∷ Words ∷ Words ∷ Words ∷ [] }
+    ensures rankings { (contents_of share_columns ≡ Words ∷ Words ∷ Words ∷ Words ∷ Words ∷ Words ∷ [])
+        × (contents_of sum_columns ≡ Words ∷ Words ∷ Words ∷ Words ∷ []) }
+    ensures traveller { contents_of line_columns ≡ Words ∷ Words ∷ Words ∷ Words ∷ Cards ∷ Words ∷ Cards ∷ Words ∷ Words ∷ Words ∷ Words ∷ [] }
+    ensures frequencies { contents_of frequency_columns ≡ Words ∷ Words ∷ Words ∷ Words ∷ [] }
+    ensures card { contents_of card_columns ≡ Words ∷ Words ∷ Words ∷ Words ∷ Cards ∷ Words ∷ Words ∷ Words ∷ Words ∷ [] }
+    ensures hands { contents_of hand_columns ≡ Cards ∷ Cards ∷ Cards ∷ [] }
+    ensures makeable { contents_of makeable_columns ≡ Words ∷ Words ∷ Words ∷ Words ∷ Words ∷ Words ∷ [] }
 {}
 
 /// The columns of each table take at most 100 bytes of a line of plain text.
