@@ -4,7 +4,7 @@ ghost use Rattle.session_rules.specs.State.{director_answer};
 ghost use Rattle.line_text.specs.Lines.{lines_text};
 ghost use Rattle.line_replies.specs.ReplyTexts.{listed_text};
 ghost use Rattle.board_replies.specs.OwnPlays.{own_plays};
-ghost use Rattle.board_replies.specs.Told.{others_line, told_lines, boards_to, rulings_text, whole_to, switched_by, asked_text, boards_text, is_open_after, opened_by};
+ghost use Rattle.board_replies.specs.Told.{others_line, told_lines, boards_to, rulings_text, whole_to, switched_by, boards_text, opened_by};
 
 use crate::asked::{Asked, read_asked};
 use crate::director::push_one_to;

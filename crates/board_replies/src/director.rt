@@ -2,14 +2,14 @@
 ghost use Rattle.std.specs.Prelude.{◌≡◌, ◌++◌, OnOk, IfSome, None, Contains};
 ghost use Rattle.std.specs.Option.{option_copied};
 ghost use Rattle.bridge_config.specs.ConfigValue.{configuration_of};
-ghost use Rattle.line_replies.specs.ReplyTexts.{short_text, listed_text};
+ghost use Rattle.line_replies.specs.ReplyTexts.{listed_text};
 ghost use Rattle.session_rules.specs.Numbers.{IsBoardIndex};
 ghost use Rattle.session_rules.specs.Outcome.{HasFewTricks};
 ghost use Rattle.session_rules.specs.State.{director_answer};
 ghost use Rattle.session_rules.specs.StateRange.{IsSession};
 ghost use Rattle.board_replies.specs.KnownPlay.{known_at, seen_play};
 ghost use Rattle.board_replies.specs.PlayLines.{play_lines};
-ghost use Rattle.board_replies.specs.Director.{row_named, dealt_text, known_text, row_text, one_text, one_by};
+ghost use Rattle.board_replies.specs.Director.{row_named, dealt_text, known_text, one_text, one_by};
 
 use crate::known_play::{KnownPlay, known_at};
 use crate::play_lines::push_play;

@@ -6,7 +6,6 @@ ghost use Rattle.bridge_auction.specs.Spelling.{call_text};
 ghost use Rattle.bridge_config.specs.ConfigValue.{configuration_of};
 ghost use Rattle.line_text.specs.Lines.{lines_text};
 ghost use Rattle.line_replies.specs.ReplyTexts.{each_spaced, spaced_line};
-ghost use Rattle.line_replies.specs.TableWords.{names_at};
 ghost use Rattle.board_replies.specs.PlayLines.{side_word, board_line, names_line, deal_word, led_words, cards_words, claim_told, claim_words, play_lines};
 ghost use Rattle.board_replies.specs.KnownPlay.{seen_play};
 ghost use Rattle.session_rules.specs.Outcome.{HasFewTricks};

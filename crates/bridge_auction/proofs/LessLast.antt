@@ -1,5 +1,5 @@
 -- The front of a list of which each element may follow those before it.
-use Rattle.std.proofs.Common.{◌≡◌, ℕ, ◌-◌, ◌++◌, List, length, take, drop, sym, subst}
+use Rattle.std.proofs.Common.{ℕ, ◌-◌, List, length, take, drop, sym, subst}
 use Rattle.std.proofs.lemmas.List.{take-append-drop}
 use Rattle.bridge_cards.specs.EachMayFollow.{EachMayFollow}
 use Rattle.bridge_cards.proofs.FollowLaws.{each_may_follow-front}

@@ -1,5 +1,5 @@
 //! Bids and their denominations, in order (Law 18).
-ghost use Rattle.std.specs.Prelude.{◌≡◌, ◌≤◌, ◌<◌};
+ghost use Rattle.std.specs.Prelude.{◌≡◌, ◌<◌};
 ghost use Rattle.bridge_auction.specs.Bid.{denomination_number, denomination_suit, denomination_at, bid_number, bid_at, IsBid};
 
 use crate::level::Level;

@@ -2,8 +2,8 @@
 ghost use Rattle.std.specs.Prelude.{◌≡◌, ◌<◌, length, IfSome, OnOk};
 ghost use Rattle.std.specs.List.{list_all};
 ghost use Rattle.bridge_auction.specs.Bid.{bid_number, IsBid};
-ghost use Rattle.bridge_auction.specs.Call.{is_pass, is_bid, is_double, IsCall};
-ghost use Rattle.bridge_auction.specs.Legal.{is_ended, last_index, last_but_passes, opponents_call, is_below, is_admissible};
+ghost use Rattle.bridge_auction.specs.Call.{is_pass, is_bid, IsCall};
+ghost use Rattle.bridge_auction.specs.Legal.{is_ended, last_index, last_but_passes, opponents_call, is_below};
 ghost use Rattle.bridge_auction.specs.Answer.{answer_to};
 ghost use Rattle.bridge_auction.specs.Contract.{first_to_name, names, doubling_of};
 

@@ -1,5 +1,5 @@
 //! Sets of cards.
-ghost use Rattle.std.specs.Prelude.{◌≡◌, ℕ, ◌==◌, ◌&&◌, ◌||◌, ◌<◌, ◌≤◌, ◌↔◌, not, true, false, IsSome, IsNone, IfSome, IsTrue, MatchBool};
+ghost use Rattle.std.specs.Prelude.{◌≡◌, ℕ, ◌==◌, ◌&&◌, ◌||◌, ◌<◌, ◌≤◌, ◌↔◌, not, false, IsSome, IsNone, IfSome, IsTrue, MatchBool};
 ghost use Rattle.bridge_cards.specs.Card.{IsCard};
 ghost use Rattle.bridge_cards.specs.CardSet.{IsCardSet, has_card, card_count, cards_of, is_of_suit};
 

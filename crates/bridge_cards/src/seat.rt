@@ -1,6 +1,6 @@
 //! Seats and sides of the table.
 ghost use Rattle.std.specs.Prelude.{◌≡◌, ◌≢◌, ◌<◌, ◌≤◌, ◌∷◌, [], length, IfSome, IfNone};
-ghost use Rattle.bridge_cards.specs.Seat.{seat_number, seat_at, clockwise_from, side_of, other_side, seat_letter};
+ghost use Rattle.bridge_cards.specs.Seat.{seat_number, clockwise_from, side_of, other_side, seat_letter};
 ghost use Rattle.bridge_cards.specs.declared.seat.Seat.{Seat};
 
 use std::fmt;

@@ -1,6 +1,5 @@
 //! A configuration within its limits.
-ghost use Rattle.std.specs.Prelude.{◌≡◌, ◌↔◌, ◌≤◌, ◌+◌, ◌++◌, IsSome, IfSome, IsTrue, length, map, All, true};
-ghost use Rattle.std.specs.List.{list_all};
+ghost use Rattle.std.specs.Prelude.{◌≡◌, ◌↔◌, ◌≤◌, ◌+◌, ◌++◌, IsSome, IfSome, IsTrue, length, map, All};
 ghost use Rattle.bridge_config.specs.ConfigValue.{configuration_of, pair_of, keys_of, key_number};
 ghost use Rattle.bridge_config.specs.Limits.{IsConfiguration, IsPair, is_name};
 

@@ -1,9 +1,9 @@
 //! A line of a configuration, and what its words state.
-ghost use Rattle.std.specs.Prelude.{◌≡◌, ◌==◌, not, length, is_some, ◌≤◌, ◌∷◌, [], map, MatchOption, MatchResult, IfOk, true};
+ghost use Rattle.std.specs.Prelude.{◌≡◌, ◌==◌, not, length, is_some, ◌≤◌, map, IfOk, true};
 ghost use Rattle.std.specs.Str.Lines.{lines};
 ghost use Rattle.bridge_config.specs.ConfigValue.{pair_of, key_number};
 ghost use Rattle.line_text.specs.WordViews.{view_of_five};
-ghost use Rattle.bridge_config.specs.LineReading.{SeenAs, within, name_in, name_line, date_line, scoring_line, number_in, number_line, are_numerals, shape_within, shape_line, row_within, row_line, is_pair_form, keys_after, pair_within, pair_line, form_at, range_at};
+ghost use Rattle.bridge_config.specs.LineReading.{SeenAs, within, name_line, date_line, scoring_line, number_line, are_numerals, shape_within, shape_line, row_within, row_line, is_pair_form, keys_after, pair_within, pair_line, form_at, range_at};
 ghost use Rattle.line_text.specs.Words.{word_after, words_of};
 ghost use Rattle.line_text.specs.Numeral.{is_numeral};
 ghost use Rattle.bridge_config.specs.Reading.{due_line};

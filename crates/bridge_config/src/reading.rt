@@ -1,5 +1,5 @@
 //! Reads the text of a configuration.
-ghost use Rattle.std.specs.Prelude.{◌≡◌, ◌+◌, ◌≤◌, ◌<◌, ◌∷◌, ◌++◌, [], ℕ, IfOk, map, length, Ok};
+ghost use Rattle.std.specs.Prelude.{◌≡◌, ◌+◌, ◌≤◌, ◌<◌, ◌∷◌, [], IfOk, map, length, Ok};
 ghost use Rattle.std.specs.Str.Lines.{lines};
 ghost use Rattle.bridge_movement.specs.Shape.{IsShape, row_count};
 ghost use Rattle.bridge_config.specs.ConfigValue.{ConfigValue, pair_of, key_number};

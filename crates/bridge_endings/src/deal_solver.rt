@@ -1,7 +1,7 @@
 //! Whole deals, solved double dummy: how many tricks a declarer takes where each of the four sees all the cards, after any cards
 //! that were played, and what each of these cost.
-ghost use Rattle.std.specs.Prelude.{◌≡◌, ◌+◌, ◌*◌, ◌≤◌, ◌↔◌, [], false, IfOk, IfSome, IsNone, IsSome};
-ghost use Rattle.bridge_cards.specs.Seat.{clockwise_from, side_of};
+ghost use Rattle.std.specs.Prelude.{◌≡◌, ◌*◌, ◌≤◌, ◌↔◌, [], false, IfOk, IfSome, IsNone, IsSome};
+ghost use Rattle.bridge_cards.specs.Seat.{clockwise_from};
 ghost use Rattle.bridge_endings.specs.Worth.{dealt, worth_with};
 ghost use Rattle.bridge_endings.specs.DealTricks.{tricks_of, declarer_tricks};
 ghost use Rattle.bridge_endings.specs.PlayedCards.{first_moment, are_legal, tricks_after, costs_of, ExplainsTricks};

@@ -1,6 +1,6 @@
 //! What is left of a play between two tricks.
-ghost use Rattle.std.specs.Prelude.{◌≡◌, ◌↔◌, ◌<◌, ◌≤◌, IfOk, MatchBool, All};
-ghost use Rattle.bridge_cards.specs.Deal.{NoneTwice, SomeTwice};
+ghost use Rattle.std.specs.Prelude.{◌≡◌, ◌↔◌, ◌<◌, ◌≤◌, IfOk, MatchBool};
+ghost use Rattle.bridge_cards.specs.Deal.{SomeTwice};
 ghost use Rattle.bridge_endings.specs.Ending.{tricks_in, AllEqual, SomeUnequal, IsEnding};
 
 use bridge_cards::deal::are_disjoint;

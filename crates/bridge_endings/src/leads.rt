@@ -1,5 +1,5 @@
 //! Which card is led first.
-ghost use Rattle.std.specs.Prelude.{◌≡◌, ℕ, true, IsTrue, IfSome};
+ghost use Rattle.std.specs.Prelude.{true, IsTrue, IfSome};
 ghost use Rattle.bridge_cards.specs.Card.{IsCard};
 ghost use Rattle.bridge_cards.specs.CardSet.{has_card};
 

@@ -1,5 +1,5 @@
 //! Top cards: a leader wins a trick by each card that no other hand beats, and so leads one after another.
-ghost use Rattle.std.specs.Prelude.{◌≡◌, ℕ, ◌*◌, ◌≤◌, [], IfSome};
+ghost use Rattle.std.specs.Prelude.{◌*◌, ◌≤◌, [], IfSome};
 ghost use Rattle.bridge_cards.specs.CardSet.{has_card};
 ghost use Rattle.bridge_endings.specs.Agree.{IsDealtOut, IsUpward};
 ghost use Rattle.bridge_endings.specs.Left.{left_to};

@@ -1,5 +1,5 @@
 //! Top trumps: a seat wins as many tricks as it has trumps that the other side cannot beat, whatever is played.
-ghost use Rattle.std.specs.Prelude.{◌≡◌, ℕ, ◌*◌, [], Some, IfSome, IsTrue, count_by};
+ghost use Rattle.std.specs.Prelude.{◌≡◌, ◌*◌, [], Some, IfSome, IsTrue, count_by};
 ghost use Rattle.bridge_cards.specs.declared.seat.Seat.{Seat};
 ghost use Rattle.bridge_cards.specs.CardSet.{has_card, deck};
 ghost use Rattle.bridge_cards.specs.Seat.{side_of};

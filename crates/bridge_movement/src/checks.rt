@@ -1,6 +1,6 @@
 //! Where rows are not in order, and what is wrong with a row.
-ghost use Rattle.std.specs.Prelude.{◌≡◌, ◌+◌, ◌<◌, ◌≤◌, ◌↔◌, ℕ, IsTrue, length, IfSome, MatchOption, take, slice_index_or};
-ghost use Rattle.bridge_movement.specs.Shape.{IsShape, row_count};
+ghost use Rattle.std.specs.Prelude.{◌≡◌, ◌+◌, ◌<◌, ◌≤◌, ◌↔◌, ℕ, IsTrue, length, IfSome, MatchOption};
+ghost use Rattle.bridge_movement.specs.Shape.{IsShape};
 ghost use Rattle.bridge_movement.specs.Fair.{IsDue, IsComplete};
 ghost use Rattle.bridge_movement.specs.Refused.{IsFirstMisplaced, IsFaultless, IsFaultOf, refused_row};
 ghost use Rattle.bridge_movement.specs.Refused.{IsFirstFault, IsFaultlessAt};

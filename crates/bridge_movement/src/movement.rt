@@ -1,5 +1,5 @@
 //! Movements: who meets whom, where, with which boards.
-ghost use Rattle.std.specs.Prelude.{◌≡◌, ◌↔◌, ◌+◌, ◌-◌, ◌*◌, ◌<◌, ◌≤◌, ℕ, length, slice_index_or, slice_get, IsOk, IfOk, IfErr, IfSome, IfNone, Some, All, AllPairs, Contains};
+ghost use Rattle.std.specs.Prelude.{◌≡◌, ◌↔◌, ◌+◌, ◌-◌, ◌*◌, ◌<◌, ◌≤◌, length, slice_get, IsOk, IfOk, IfErr, IfSome, IfNone, Some, All, AllPairs};
 ghost use Rattle.bridge_movement.specs.Shape.{IsBetween, IsShape, index_of_row};
 ghost use Rattle.bridge_movement.specs.Fair.{IsMovement, HasPairsWithin, HasSetWithin};
 ghost use Rattle.bridge_movement.specs.Refused.{IsRefusal};

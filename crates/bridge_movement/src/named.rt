@@ -1,5 +1,5 @@
 //! The movements that have names, for any number of pairs.
-ghost use Rattle.std.specs.Prelude.{◌≡◌, ◌≤◌, ◌↔◌, ◌*◌, IsTrue, All, AllPairs};
+ghost use Rattle.std.specs.Prelude.{◌≡◌, ◌↔◌, ◌*◌, IsTrue, All, AllPairs};
 ghost use Rattle.bridge_movement.specs.Fair.{IsMovement};
 ghost use Rattle.bridge_movement.specs.HalfTable.{SitsOutOnce};
 ghost use Rattle.bridge_movement.specs.Named.{IsFor, IsFull, IsNamed};

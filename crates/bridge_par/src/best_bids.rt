@@ -1,7 +1,7 @@
 //! What each side reaches at best by a bid.
 ghost use Rattle.std.specs.Prelude.{◌≡◌, ◌≤◌, ◌<◌, suc};
 ghost use Rattle.bridge_par.specs.Tricks.{IsTrickTable};
-ghost use Rattle.bridge_par.specs.Par.{called, standing, par_score};
+ghost use Rattle.bridge_par.specs.Par.{standing, par_score};
 ghost use Rattle.bridge_par.specs.BestBids.{best_of, or_best, IsBest};
 
 use crate::tricks::TrickTable;

@@ -1,5 +1,5 @@
 //! The par score and the contracts that reach it.
-ghost use Rattle.std.specs.Prelude.{◌≡◌, ◌≤◌, ◌<◌, ◌+◌, ◌*◌, ◌++◌, suc};
+ghost use Rattle.std.specs.Prelude.{◌≡◌, ◌≤◌, ◌<◌, ◌+◌, ◌++◌, suc};
 ghost use Rattle.arrayvec.specs.ArrayVec.{array_vec_len};
 ghost use Rattle.bridge_par.specs.Tricks.{IsTrickTable};
 ghost use Rattle.std.specs.Ordering.{int_eq};

@@ -1,6 +1,6 @@
 -- The PBN text of a session: its games, which are the plays that are finished, not void and not adjusted, and to which no score is
 -- assigned.
-use Rattle.std.specs.Prelude.{ℕ, ◌-◌, ◌*◌, Bool, true, false, if◌then◌else◌, List, [], ◌∷◌, ◌++◌, codes, flat_map, Option, Some, None, option_and_then}
+use Rattle.std.specs.Prelude.{ℕ, ◌-◌, Bool, true, false, if◌then◌else◌, List, [], ◌∷◌, ◌++◌, codes, flat_map, Option, Some, None, option_and_then}
 use Rattle.std.specs.List.{filter_map, range_with_len}
 use Rattle.bridge_cards.specs.Board.{dealer_of}
 use Rattle.bridge_auction.specs.declared.call.Call.{Call}

@@ -1,5 +1,5 @@
 //! How many claims were made in a play.
-ghost use Rattle.std.specs.Prelude.{◌≡◌, ◌≤◌, ◌↔◌, IsSome, IfSome};
+ghost use Rattle.std.specs.Prelude.{◌≡◌, ◌↔◌, IsSome, IfSome};
 ghost use Rattle.bridge_play.specs.Play.{IsClaimCount};
 
 use std::marker::Model;

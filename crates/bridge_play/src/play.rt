@@ -1,5 +1,5 @@
 //! The play of one board.
-ghost use Rattle.std.specs.Prelude.{◌≡◌, ◌≢◌, ℕ, ◌+◌, ◌*◌, ◌<◌, ◌≤◌, ◌++◌, ◌∷◌, [], ◌↔◌, ◌||◌, nat_lt, is_some, length, take, IsOk, OnOk, OnErr, IfSome, None, All, IsSome};
+ghost use Rattle.std.specs.Prelude.{◌≡◌, ◌≢◌, ℕ, ◌+◌, ◌*◌, ◌<◌, ◌≤◌, [], ◌↔◌, ◌||◌, nat_lt, is_some, length, take, IsOk, OnOk, OnErr, IfSome, None, All, IsSome};
 ghost use Rattle.std.specs.Bool.{OnFalse};
 ghost use Rattle.bridge_play.specs.Play.{with_card, without_latest, is_over, is_agreed, card_answer, MayBePlayed, tricks_of, settled_tricks, IsPlay, playing, with_claims, is_claim_in};
 ghost use Rattle.bridge_play.specs.Dummy.{actor_of, dummy_of};

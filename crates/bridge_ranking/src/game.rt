@@ -1,9 +1,9 @@
 //! The plays of a session that are compared, with their scores or averages.
-ghost use Rattle.std.specs.Prelude.{◌≡◌, ◌≤◌, length, map, flat_map, zip, All, IfSome, Some};
+ghost use Rattle.std.specs.Prelude.{◌≡◌, ◌≤◌, length, map, All, IfSome, Some};
 ghost use Rattle.std.specs.List.{filter_map};
 ghost use Rattle.bridge_score.specs.ScoringTable.{IsScore};
 ghost use Rattle.session_rules.specs.Outcome.{HasFewTricks};
-ghost use Rattle.bridge_ranking.specs.Ranking.{score_for, played_score, result_of, game_by};
+ghost use Rattle.bridge_ranking.specs.Ranking.{score_for, played_score, result_of};
 ghost use Rattle.bridge_ranking.specs.KeptGames.{IsGame, IsResult, kept_game, kept_games};
 
 use arrayvec::ArrayVec;

@@ -5,7 +5,6 @@ ghost use Rattle.bridge_cards.specs.Board.{IsBoard};
 ghost use Rattle.bridge_score.specs.ScoringTable.{IsScore};
 ghost use Rattle.bridge_ranking.specs.Ranking.{scores_on};
 ghost use Rattle.bridge_ranking.specs.Gains.{AreGames, with_score};
-ghost use Rattle.bridge_ranking.specs.KeptGames.{IsGame};
 
 use crate::game::{Game, PlayResult, score_for};
 use arrayvec::ArrayVec;

@@ -1,6 +1,5 @@
 //! How a play compares with the others of its board.
 ghost use Rattle.std.specs.Prelude.{◌≡◌, ◌≤◌, length, IfSome, All};
-ghost use Rattle.std.specs.Option.{option_map};
 ghost use Rattle.bridge_ranking.specs.Gains.{AreGames};
 ghost use Rattle.bridge_ranking.specs.KeptGames.{IsGame, IsResult};
 ghost use Rattle.bridge_results.specs.Plays.{HasTricksWithin};

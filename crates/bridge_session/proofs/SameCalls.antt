@@ -1,4 +1,4 @@
-use Rattle.std.proofs.Common.{◌≡◌, ◌==◌, ℕ, true, rules, List, refl, ap, ◌∙◌, sym}
+use Rattle.std.proofs.Common.{◌≡◌, ◌==◌, ℕ, rules, List, refl, ap, ◌∙◌}
 use Rattle.std.specs.Bool.{Decides}
 use Rattle.std.proofs.lemmas.Bool.Decides.{Decides-and, Decides-eqb, Decides-like}
 use Rattle.std.proofs.lemmas.Slice.Eq.{slice_eq-Decides}
@@ -7,11 +7,9 @@ use Rattle.bridge_auction.specs.declared.bid.Denomination.TheVariants.{Clubs, Di
 use Rattle.bridge_auction.specs.declared.call.Call.{Call}
 use Rattle.bridge_auction.specs.declared.call.Call.TheVariants.{Pass, Bid, Double, Redouble}
 use Rattle.bridge_auction.specs.declared.bid.Bid.{Bid as BidType}
-use Rattle.bridge_auction.specs.declared.level.Level.{Level}
 use Rattle.bridge_auction.specs.contracts.call.CallPartialEq.TheImpl as call_eq
 use Rattle.bridge_auction.specs.contracts.bid.BidPartialEq.TheImpl as bid_eq
 use Rattle.bridge_auction.specs.contracts.bid.DenominationPartialEq.TheImpl as denomination_eq
-use Rattle.bridge_auction.specs.contracts.level.LevelPartialEq.TheImpl as level_eq
 use Rattle.bridge_cards.specs.contracts.card.CardPartialEq.TheImpl as card_eq
 use Rattle.bridge_cards.specs.contracts.deal.DealPartialEq.TheImpl as deal_eq
 

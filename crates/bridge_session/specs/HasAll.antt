@@ -1,10 +1,8 @@
 -- Whether a session has all that was dealt, called and played in another.
 use Rattle.std.specs.Prelude.{◌≡◌, ◌⊎◌, ◌≤◌, ◌++◌, ℕ, ⊤, List, Option, None}
 use Rattle.std.specs.List.{AllZip}
-use Rattle.session_rules.specs.declared.action.Action.{Action}
 use Rattle.session_rules.specs.declared.act.Act.{Act}
 use Rattle.session_rules.specs.declared.act.Act.TheVariants as act
-use Rattle.session_rules.specs.Act.{act_of}
 use Rattle.session_rules.specs.Record.{PlainRecord}
 use Rattle.session_rules.specs.State.{SessionValue, row_at}
 

@@ -1,7 +1,6 @@
 //! The deals and the records of a session at its opening.
 ghost use Rattle.std.specs.Prelude.{◌≡◌, ◌≤◌, ◌+◌, ◌-◌, ◌*◌, map, replicate, IfOk, All, None};
 ghost use Rattle.std.specs.List.{range_with_len};
-ghost use Rattle.bridge_movement.specs.Row.{is_live};
 ghost use Rattle.bridge_config.specs.Limits.{IsConfiguration};
 ghost use Rattle.bridge_table.specs.Kept.{new_record};
 ghost use Rattle.bridge_session.specs.KeptSession.{new_table};

@@ -1,8 +1,8 @@
 //! The records of one table in one round.
-ghost use Rattle.std.specs.Prelude.{◌≡◌, ◌<◌, length, map, position, unwrap_or, None, slice_get, All, OnOk, OnErr};
+ghost use Rattle.std.specs.Prelude.{◌≡◌, ◌<◌, map, position, slice_get, All, OnOk, OnErr};
 ghost use Rattle.std.specs.List.{list_any};
 ghost use Rattle.std.specs.Option.{option_copied};
-ghost use Rattle.session_rules.specs.State.{deal_on, current_index, changed_at};
+ghost use Rattle.session_rules.specs.State.{deal_on, changed_at};
 ghost use Rattle.session_rules.specs.DirectorStep.{is_begun_on, is_ruled_on};
 ghost use Rattle.session_rules.specs.PlayerStep.{answer_among, acted_among};
 ghost use Rattle.session_rules.specs.Valid.{IsDeed};

@@ -1,5 +1,5 @@
 //! What a player is shown of the current play of the table.
-ghost use Rattle.std.specs.Prelude.{◌≡◌, ◌≤◌, length, take, [], None, Some, IfSome, map, All, MatchResult, Err};
+ghost use Rattle.std.specs.Prelude.{◌≡◌, ◌≤◌, length, take, [], None, Some, map, All, MatchResult, Err};
 ghost use Rattle.std.specs.Option.{option_map};
 ghost use Rattle.bridge_cards.specs.CardSet.{cards_of};
 ghost use Rattle.bridge_play.specs.Trick.{whole_tricks};

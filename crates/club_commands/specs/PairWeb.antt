@@ -139,9 +139,10 @@ IsNothingShown Why output ended = (fault : RunFault) × Why fault × (ended ≡ 
 abbrev pub HasNoMemory : RunFault → Type 0
 HasNoMemory fault = fault ≡ Store NoMemory
 
--- no session was opened on two disks, which is the fault
+-- no session was opened on two disks, which came back, and that is the fault
 abbrev pub IsNotOpened : ClubDisk → ClubDisk → RunFault → Type 0
-IsNotOpened d e fault = (cause : JoinFault) × IsNotJoined file_disk d e cause × (fault ≡ Joining cause)
+IsNotOpened d e fault =
+    (cause : JoinFault) × (d' : ClubDisk) × (e' : ClubDisk) × IsNotJoined file_disk d e d' e' cause × (fault ≡ Joining cause)
 
 -- It is said how the disks stood to each other and where the pages are, and they were shown; or a write of that failed.
 abbrev pub ShowsPairAt : Judged → Site → PairServer ClubStore ClubStore → PairServer ClubStore ClubStore → Stream → Ended → Type 0

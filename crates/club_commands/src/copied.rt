@@ -108,7 +108,7 @@ fn show_on<N: Host, W: Write>(
         disk copy }
 {
     match join_disks(alloc, disk, copy) {
-        Err(fault) => Err(RunFault::Joining(fault)),
+        Err(unjoined) => Err(RunFault::Joining(unjoined.fault)),
         Ok(joined) => show_opened(rt, alloc, shown, disks, joined, output),
     }
 }

@@ -2,10 +2,9 @@
 ghost use Rattle.std.specs.Prelude.{◌≡◌, ◌≤◌, true, length, string_bytes, IfErr, IfSome, OnOk};
 ghost use Rattle.line_text.specs.Streams.{stream};
 ghost use Rattle.session_pair.specs.Joining.{IsOne};
-ghost use Rattle.pair_pages.specs.Pair.{are_settled};
 ghost use Rattle.table_pages.specs.Site.{site_of};
 ghost use Rattle.club_commands.specs.Web.{HasNoRandom, IsUnshown};
-ghost use Rattle.club_commands.specs.PairWeb.{lost_disk, ended_standing, pair_ended_by, begun_line, value_of, BeginsWith, IsNothingShown, ShowsPair, ShowsPairAt, ShowsPairOr, ShowsJoined, ShowsJoinedWith};
+ghost use Rattle.club_commands.specs.PairWeb.{lost_disk, ended_standing, pair_ended_by, begun_line, BeginsWith, IsNothingShown, ShowsPair, ShowsPairAt, ShowsPairOr, ShowsJoined, ShowsJoinedWith};
 
 use crate::fault::{LostDisk, RunFault, SystemFault};
 use crate::listed::refuse_list;

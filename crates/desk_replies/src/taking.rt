@@ -1,10 +1,10 @@
 //! What the desk takes, and from whom.
-ghost use Rattle.std.specs.Prelude.{◌≡◌, Ok, Some, None};
+ghost use Rattle.std.specs.Prelude.{Ok, Some, None};
 ghost use Rattle.session_rules.specs.Numbers.{IsTableNumber};
 ghost use Rattle.session_rules.specs.State.{acting_player, director_answer, seating_of};
 ghost use Rattle.desk_replies.specs.Claims.{standing, claim_to, is_asked};
 ghost use Rattle.desk_replies.specs.Desk.{without_notice, with_clock, set_call};
-ghost use Rattle.desk_replies.specs.Taken.{Takes, look_taken, notice_taken, call_by, state_with, state_by, refusal_with, refusal_by, by_director, order_taken, taken};
+ghost use Rattle.desk_replies.specs.Taken.{Takes, look_taken, notice_taken, call_by, state_with, state_by, refusal_with, refusal_by, by_director, taken};
 
 use crate::asked::{Asked, Order};
 use crate::claims::{SeenClaim, claim_to, is_asked};

@@ -1,5 +1,5 @@
 //! The pairs of a list of names.
-ghost use Rattle.std.specs.Prelude.{◌≡◌, Some};
+ghost use Rattle.std.specs.Prelude.{Some};
 ghost use Rattle.line_text.specs.Streams.{stream};
 ghost use Rattle.evening_commands.specs.TextFile.{OfReader, OfFound, OfFile};
 ghost use Rattle.evening_commands.specs.Evenings.{ReadsList, ListOf, FitsPairs, NamesOf};

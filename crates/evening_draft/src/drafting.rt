@@ -1,6 +1,5 @@
 //! The configuration of an evening.
-ghost use Rattle.std.specs.Prelude.{◌≡◌, ◌+◌, ◌*◌, ◌≤◌, ◌<◌, ◌↔◌, length, map, true, All, IfSome, IsSome, IfOk, IfErr};
-ghost use Rattle.bridge_movement.specs.Fair.{IsMovement};
+ghost use Rattle.std.specs.Prelude.{◌≡◌, ◌≤◌, ◌<◌, ◌↔◌, length, map, true, All, IfSome, IsSome, IfOk, IfErr};
 ghost use Rattle.bridge_movement.specs.Named.{IsNamed};
 ghost use Rattle.bridge_config.specs.ConfigValue.{keys_of};
 ghost use Rattle.bridge_config.specs.Limits.{are_distinct};

@@ -1,7 +1,6 @@
 //! Keys drawn from a seed.
-ghost use Rattle.std.specs.Prelude.{◌≡◌, ◌+◌, ◌*◌, ◌<◌, ◌≤◌, ◌++◌, ◌∷◌, [], length, take, All, IfSome, IfNone, IsTrue, true};
-ghost use Rattle.rand_chacha.specs.ChaCha.{key_of, word_at, of_seed};
-ghost use Rattle.bridge_config.specs.Limits.{stands_in, are_distinct};
+ghost use Rattle.std.specs.Prelude.{◌≡◌, ◌+◌, ◌*◌, ◌<◌, ◌≤◌, length, All, IfSome, IfNone, true};
+ghost use Rattle.bridge_config.specs.Limits.{are_distinct};
 ghost use Rattle.evening_draft.specs.Keys.{HasNineDigits, nine_digits, gives_key, with_word, drawn, key_count, evening_keys};
 
 use arrayvec::ArrayVec;

@@ -1,5 +1,5 @@
 //! A list of names, a line a pair.
-ghost use Rattle.std.specs.Prelude.{false, ◌≡◌, ◌≢◌, ◌++◌, ◌∷◌, [], ◌<◌, ◌≤◌, length, All, IfSome, IfNone, MatchBool, MatchOption};
+ghost use Rattle.std.specs.Prelude.{false, ◌≡◌, ◌<◌, All, IfSome, IfNone, MatchBool};
 ghost use Rattle.std.specs.Str.Lines.{lines};
 ghost use Rattle.evening_draft.specs.Names.{is_separator, IsSplit, ReadsSides, ReadsPair, IsLeftOut, HasPair, fault_at, TakesLine, ReadsEnd, ReadsNames};
 ghost use Rattle.evening_draft.specs.NamesView.{names_seen};

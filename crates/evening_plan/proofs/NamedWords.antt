@@ -6,7 +6,6 @@ use Rattle.line_text.specs.Lines.{is_long}
 use Rattle.line_text.specs.Words.{Five, spaced_words, words_of, word_after, five_after}
 use Rattle.line_text.specs.Numeral.{is_numeral}
 use Rattle.line_text.proofs.Splits.{some_part}
-use Rattle.bridge_cards.specs.declared.scoring.Scoring.{Scoring}
 use Rattle.bridge_cards.specs.declared.scoring.Scoring.TheVariants.{MatchPoints, Imps}
 use Rattle.bridge_config.specs.declared.refused.ConfigFault.{ConfigFault}
 use Rattle.bridge_config.specs.declared.refused.ConfigRefused.TheVariants.{KeyTwice}

@@ -1,5 +1,5 @@
 //! The slips of an evening.
-ghost use Rattle.std.specs.Prelude.{◌≡◌, ◌≤◌, length, flat_map};
+ghost use Rattle.std.specs.Prelude.{◌≡◌, ◌≤◌, flat_map};
 ghost use Rattle.std.specs.List.{range_with_len};
 ghost use Rattle.line_text.specs.Streams.{stream, Written};
 ghost use Rattle.page_layout.specs.Page.{page_end};

@@ -1,7 +1,7 @@
 //! The rankings over all sections.
 ghost use Rattle.std.specs.Prelude.{◌≡◌, map, IfOk};
 ghost use Rattle.serde_json.specs.View.{view};
-ghost use Rattle.results_object.specs.Values.{IsValue, count_data, list_data};
+ghost use Rattle.results_object.specs.Values.{IsValue, count_data};
 ghost use Rattle.results_object.specs.Object.{names_data, total_data};
 ghost use Rattle.event_ranking.specs.EventRanking.{unplaced};
 ghost use Rattle.event_object.specs.SectionRankings.{names_on, section_ranked_data, field_data};

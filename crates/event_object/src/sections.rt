@@ -4,7 +4,7 @@ ghost use Rattle.std.specs.List.{range_with_len, enumerate_from};
 ghost use Rattle.bridge_config.specs.ConfigValue.{pair_of, configuration_of};
 ghost use Rattle.event_ranking.specs.EventText.{section_text};
 ghost use Rattle.serde_json.specs.View.{view};
-ghost use Rattle.results_object.specs.Values.{IsValue, text_data, list_data};
+ghost use Rattle.results_object.specs.Values.{IsValue, text_data};
 ghost use Rattle.event_object.specs.Sections.{pair_data, pairs_data, section_data, sections_data};
 
 use bridge_config::{Config, ConfigFields, PairFields};

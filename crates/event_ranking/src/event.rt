@@ -1,5 +1,5 @@
 //! Several sessions as one field, with the scores of all.
-ghost use Rattle.std.specs.Prelude.{◌≡◌, ◌≤◌, ◌<◌, ◌+◌, ◌++◌, [], length, map, slice_index_or, All, OnOk, IfOk};
+ghost use Rattle.std.specs.Prelude.{◌≡◌, ◌≤◌, ◌<◌, ◌+◌, ◌++◌, length, map, slice_index_or, All, OnOk, IfOk};
 ghost use Rattle.std.specs.List.{range_with_len};
 ghost use Rattle.bridge_movement.specs.Shape.{IsShape};
 ghost use Rattle.bridge_cards.specs.declared.seat.Side.TheVariants.{NorthSouth};
@@ -7,7 +7,7 @@ ghost use Rattle.bridge_ranking.specs.Ranking.{games_of, pairs_of_field, scores_
 ghost use Rattle.session_rules.specs.State.{SessionValue};
 ghost use Rattle.event_ranking.specs.OneField.{IsField};
 ghost use Rattle.event_ranking.specs.Joint.{joint, made_lines};
-ghost use Rattle.event_ranking.specs.Wide.{AreOfSection, AreOfSections};
+ghost use Rattle.event_ranking.specs.Wide.{AreOfSection};
 ghost use Rattle.event_ranking.specs.EventRanking.{scoring_of, lines_at, field_lines, IsFieldRanking, IsSectionRanking};
 
 use crate::gain::MOST_SCORES;

@@ -1,5 +1,5 @@
 //! What a score gains against the scores of its board in all sections, or is awarded (Laws 12C2, 78). Matchpoints are in tenths.
-ghost use Rattle.std.specs.Prelude.{◌≡◌, ◌≤◌, ◌<◌, ◌*◌, ◌-◌, length, map, position, sum_by, pos, neg_ℤ, ◌-ℤ◌, ◌≤ℤ◌};
+ghost use Rattle.std.specs.Prelude.{◌≡◌, ◌≤◌, ◌<◌, ◌*◌, ◌-◌, length, map, position, sum_by, pos, neg_ℤ, ◌≤ℤ◌};
 ghost use Rattle.std.specs.Ordering.{int_eq};
 ghost use Rattle.bridge_score.specs.Comparison.{int_sum_by, matchpoints_against, matchpoints_of, imps_against, cross_imps_of};
 ghost use Rattle.bridge_ranking.specs.Ranking.{score_for, gain_at, gain_of, available_of, award, gained};

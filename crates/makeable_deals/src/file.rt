@@ -1,5 +1,4 @@
 //! The deals of a file.
-ghost use Rattle.std.specs.Prelude.{Some};
 ghost use Rattle.line_text.specs.Streams.{stream, Written};
 ghost use Rattle.makeable_deals.specs.Making.{text_in, WritesDeals, MakesOf, Makes, OfReader, OfFound, OfFile};
 

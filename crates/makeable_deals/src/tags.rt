@@ -1,8 +1,7 @@
 //! The tags of a deal: par and the table of tricks.
-ghost use Rattle.std.specs.Prelude.{◌≡◌, ◌≤◌, ◌+◌, ◌++◌, length, flat_map};
+ghost use Rattle.std.specs.Prelude.{◌≡◌, ◌≤◌, ◌+◌, ◌++◌, length};
 ghost use Rattle.arrayvec.specs.ArrayVec.{array_vec_len};
 ghost use Rattle.bridge_par.specs.Tricks.{IsTrickTable};
-ghost use Rattle.makeable_deals.specs.Makeable.{contract_behind};
 ghost use Rattle.makeable_deals.specs.Games.{in_two, result_row, result_rows, score_tag, words_or_pass, contracts_tag, table_tag, par_tags, tags_with};
 
 use crate::board_deal::BoardDeal;

@@ -1,5 +1,5 @@
 //! The names around a table.
-ghost use Rattle.std.specs.Prelude.{◌≡◌, ◌+◌, ◌≤◌, ◌++◌, length};
+ghost use Rattle.std.specs.Prelude.{◌≡◌, ◌+◌, ◌≤◌, ◌++◌};
 ghost use Rattle.arrayvec.specs.ArrayString.{array_string_len};
 ghost use Rattle.bridge_config.specs.ConfigValue.{configuration_of};
 ghost use Rattle.line_replies.specs.ReplyTexts.{each_spaced};

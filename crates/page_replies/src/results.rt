@@ -1,5 +1,5 @@
 //! The results of a session, told to who may see its rankings.
-ghost use Rattle.std.specs.Prelude.{◌≡◌, ℕ, List, Option, IfSome};
+ghost use Rattle.std.specs.Prelude.{ℕ, List, Option, IfSome};
 ghost use Rattle.line_text.specs.Streams.{stream, Written};
 ghost use Rattle.session_rules.specs.State.{ranking_asker};
 ghost use Rattle.line_replies.specs.ReplyTexts.{short_text};

@@ -1,13 +1,12 @@
 //! All tables of the present round, told to the director.
-ghost use Rattle.std.specs.Prelude.{◌≡◌, ◌+◌, ◌*◌, ◌≤◌, slice_get, ◌∷◌, ◌++◌, [], length, map};
-ghost use Rattle.std.specs.Option.{option_map_or};
+ghost use Rattle.std.specs.Prelude.{◌≡◌, ◌+◌, ◌*◌, ◌≤◌, slice_get, ◌∷◌, ◌++◌, [], map};
 ghost use Rattle.std.specs.List.{range_with_len};
 ghost use Rattle.arrayvec.specs.ArrayString.{array_string_len};
 ghost use Rattle.bridge_config.specs.ConfigValue.{configuration_of};
 ghost use Rattle.line_text.specs.Lines.{lines_text};
 ghost use Rattle.bridge_movement.specs.Shape.{index_of_row};
-ghost use Rattle.line_replies.specs.ReplyTexts.{each_spaced, listed_text};
-ghost use Rattle.page_replies.specs.Tables.{row_words, table_line, tables_now, boards_line, table_lines, tables_by, tables_text};
+ghost use Rattle.line_replies.specs.ReplyTexts.{listed_text};
+ghost use Rattle.page_replies.specs.Tables.{table_line, tables_now, boards_line, table_lines, tables_by, tables_text};
 ghost use Rattle.session_rules.specs.State.{director_answer};
 
 use crate::lines::push_round_line;

@@ -1,5 +1,5 @@
 //! A body of lines, served over the two stores of a pair.
-ghost use Rattle.std.specs.Prelude.{◌≡◌, ◌<◌, false, length, IfSome};
+ghost use Rattle.std.specs.Prelude.{◌<◌, false, length, IfSome};
 ghost use Rattle.session_pair.specs.Telling.{HasConfirmed};
 ghost use Rattle.pair_pages.specs.Pair.{pair_of, told_text, IsServedTwice, CountsInPair};
 

@@ -1,13 +1,9 @@
 //! The games of a session.
 ghost use Rattle.std.specs.Prelude.{◌≡◌};
-ghost use Rattle.std.specs.Option.{option_copied};
 ghost use Rattle.line_text.specs.Streams.{stream, Written};
 ghost use Rattle.bridge_results.specs.MakeableText.{makeable_on};
-ghost use Rattle.session_rules.specs.State.{deal_on};
-ghost use Rattle.results_pbn.specs.Optimum.{known_tags};
-ghost use Rattle.results_pbn.specs.Scores.{score_table};
-ghost use Rattle.results_pbn.specs.Totals.{seen, totals_on};
-ghost use Rattle.results_pbn.specs.Games.{head_text, board_start, board_tables, board_game, played_game, game_on, all_games, results_games, AreTotals, WritesGames};
+ghost use Rattle.results_pbn.specs.Totals.{seen};
+ghost use Rattle.results_pbn.specs.Games.{board_start, board_tables, board_game, played_game, game_on, all_games, results_games, AreTotals, WritesGames};
 
 use crate::optimum::write_known;
 use crate::scores::write_scores;

@@ -1,5 +1,5 @@
 //! What could be made on the boards of a session.
-ghost use Rattle.std.specs.Prelude.{◌≡◌, ◌≤◌, length, IfOk, IfSome};
+ghost use Rattle.std.specs.Prelude.{◌≡◌, IfOk};
 ghost use Rattle.std.specs.Option.{option_copied, option_map};
 ghost use Rattle.makeable_deals.specs.Makeable.{table_of};
 ghost use Rattle.session_rules.specs.State.{deal_on};

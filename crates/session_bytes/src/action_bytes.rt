@@ -1,6 +1,5 @@
 //! The bytes of an action on the disk.
 ghost use Rattle.std.specs.Prelude.{◌≡◌, ◌<◌, ◌≤◌, ◌+◌, ◌++◌, ◌∷◌, [], length, flat_map, All};
-ghost use Rattle.std.specs.Int.{w16, w32, w64, to_be_bytes};
 ghost use Rattle.bridge_cards.specs.Board.{IsBoard};
 ghost use Rattle.bridge_cards.specs.CardSet.{IsCardSet};
 ghost use Rattle.session_rules.specs.StateRange.{IsCorrectionInRange};

@@ -1,5 +1,5 @@
 //! The action that bytes of the disk are those of.
-ghost use Rattle.std.specs.Prelude.{◌≡◌, ◌≢◌, ◌<◌, IfSome, IfNone, List, ℕ, length};
+ghost use Rattle.std.specs.Prelude.{◌≡◌, ◌≢◌, ◌<◌, IfSome, IfNone, length};
 ghost use Rattle.session_rules.specs.declared.action.Action.{Action as ActionType};
 ghost use Rattle.session_bytes.specs.ActionRange.{IsInRange};
 ghost use Rattle.session_bytes.specs.ActionBytes.{HasAction, action_bytes, action_of, action_in, turn_in, deed_in, ruling_in, correction_in, averages_in, assigned_in, play_in, deal_in, undeal_in, back_in, hands_in, hand_in, only_byte, at_end};

@@ -1,6 +1,5 @@
 //! The parts of the configuration, the movement, the pairs and the boards.
 ghost use Rattle.std.specs.Prelude.{◌≡◌, ◌≤◌, [], length};
-ghost use Rattle.std.specs.Option.{option_copied};
 ghost use Rattle.bridge_config.specs.ConfigValue.{pair_of};
 ghost use Rattle.session_bytes.specs.Parts.{scoring_number, configuration_part, movement_part, pair_part, deal_part};
 

@@ -1,13 +1,11 @@
 //! The configuration and the round, read from the parts before those of the boards.
-ghost use Rattle.std.specs.Prelude.{◌≡◌, ◌≢◌, ◌↔◌, ◌+◌, ◌*◌, ◌<◌, ◌≤◌, ◌++◌, ℕ, List, length, map, drop, take, slice_index, IfSome, IfNone, IsTrue, All, Any};
-ghost use Rattle.bridge_movement.specs.declared.row.Row.{Row as RowType};
+ghost use Rattle.std.specs.Prelude.{◌≡◌, ◌≢◌, ◌↔◌, ◌+◌, ◌*◌, ◌<◌, ◌≤◌, length, map, take, slice_index, IfSome, IfNone, IsTrue, Any};
 ghost use Rattle.bridge_movement.specs.Shape.{IsShape, row_count};
-ghost use Rattle.bridge_config.specs.ConfigValue.{ConfigValue, Pair, pair_of};
-ghost use Rattle.bridge_config.specs.Limits.{IsConfiguration, IsPair};
-ghost use Rattle.session_bytes.specs.Parts.{configuration_part, movement_part, pair_part};
-ghost use Rattle.session_bytes.specs.PartsRead.{text_in, after_text, scoring_at, numbers_in, shape_of_numbers, key_in, row_of_part, rows_of_part, pair_of_part, configuration_in};
+ghost use Rattle.bridge_config.specs.ConfigValue.{pair_of};
+ghost use Rattle.session_bytes.specs.Parts.{pair_part};
+ghost use Rattle.session_bytes.specs.PartsRead.{numbers_in, row_of_part, rows_of_part, pair_of_part, configuration_in};
 ghost use Rattle.session_bytes.specs.Reading.{items_of};
-ghost use Rattle.session_bytes.specs.Head.{head_parts, IsHeadingOf, IsHeadingPart, IsPairPart, IsMovementPart, AreHeadParts, HasHeading, IsHead, NoHead, IsRound, AreOfNoHead};
+ghost use Rattle.session_bytes.specs.Head.{head_parts, IsPairPart, IsMovementPart, AreHeadParts, HasHeading, IsHead, NoHead, IsRound, AreOfNoHead};
 
 use crate::config_bytes::{write_configuration, write_movement, write_pair};
 use crate::heading::{key_of, read_heading, split_text};

@@ -1,6 +1,6 @@
 //! What the first part of a session states, read from it.
-ghost use Rattle.std.specs.Prelude.{◌≡◌, ◌≢◌, ◌+◌, ◌*◌, ◌<◌, ◌≤◌, length, slice_index, IfSome, IfNone};
-ghost use Rattle.session_bytes.specs.PartsRead.{text_in, after_text, scoring_at, numbers_in, shape_of_numbers, key_in};
+ghost use Rattle.std.specs.Prelude.{◌≡◌, ◌*◌, ◌<◌, ◌≤◌, length, IfSome, IfNone};
+ghost use Rattle.session_bytes.specs.PartsRead.{text_in, after_text, scoring_at, shape_of_numbers, key_in};
 ghost use Rattle.session_bytes.specs.Head.{IsHeadingOf, IsHeadingPart};
 
 use arrayvec::ArrayString;

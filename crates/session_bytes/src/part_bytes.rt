@@ -1,5 +1,5 @@
 //! The bytes of a part of a session, as they are written one after the other.
-ghost use Rattle.std.specs.Prelude.{◌≡◌, ◌+◌, ◌<◌, ◌≤◌, ◌++◌, ◌∷◌, [], length};
+ghost use Rattle.std.specs.Prelude.{◌≡◌, ◌+◌, ◌<◌, ◌≤◌, ◌++◌, length};
 ghost use Rattle.session_bytes.specs.Parts.{text_bytes, value_if};
 
 use arrayvec::ArrayVec;

@@ -1,5 +1,5 @@
 //! The part of a play in the second format: its record, or eight zeros where nothing has happened.
-ghost use Rattle.std.specs.Prelude.{◌≡◌, ◌+◌, ◌<◌, ◌≤◌, ◌++◌, ◌∷◌, [], length, map};
+ghost use Rattle.std.specs.Prelude.{◌≡◌, ◌+◌, ◌<◌, ◌≤◌, ◌++◌, [], length, map};
 ghost use Rattle.bridge_cards.specs.Board.{dealer_of};
 ghost use Rattle.bridge_auction.specs.Call.{call_number};
 ghost use Rattle.session_rules.specs.Record.{empty_record};

@@ -1,5 +1,5 @@
 //! The record of a play, read from its part.
-ghost use Rattle.std.specs.Prelude.{◌≡◌, ◌≢◌, ◌≤◌, ℕ, List, [], length, map, is_some, unwrap_or, IfSome, IfNone, All, Any, None, false};
+ghost use Rattle.std.specs.Prelude.{◌≡◌, ◌≢◌, ◌≤◌, List, [], length, map, unwrap_or, IfSome, IfNone, All, Any, None, false};
 ghost use Rattle.bridge_cards.specs.Board.{dealer_of};
 ghost use Rattle.bridge_auction.specs.declared.call.Call.{Call as CallType};
 ghost use Rattle.bridge_auction.specs.Call.{call_number, call_at};
@@ -7,7 +7,6 @@ ghost use Rattle.bridge_auction.specs.Legal.{IsLegal};
 ghost use Rattle.bridge_play.specs.Play.{IsClaimCount};
 ghost use Rattle.session_rules.specs.Record.{PlainRecord, play_of};
 ghost use Rattle.bridge_table.specs.Kept.{plain_of, IsTiedIn};
-ghost use Rattle.session_bytes.specs.Parts.{HasRecord, record_part};
 ghost use Rattle.session_rules.specs.StateRange.{IsOfFourSeats, IsRulingInRange, IsRecordInRange, AreHandsOrNone};
 ghost use Rattle.session_rules.specs.Valid.{IsValidRecord};
 ghost use Rattle.session_bytes.specs.Reading.{some_call, fields_in, fields_of, plain_from, IsPlayed, may_stand, is_untouched, is_in_place, IsReadFrom, IsOfNoRecord};

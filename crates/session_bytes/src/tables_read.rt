@@ -5,7 +5,6 @@ ghost use Rattle.session_rules.specs.State.{Deals, row_boards};
 ghost use Rattle.bridge_table.specs.Kept.{plain_of, board_kept, IsTiedIn};
 ghost use Rattle.session_bytes.specs.Parts.{deal_part, row_parts};
 ghost use Rattle.session_rules.specs.StateRange.{AreHandsOrNone};
-ghost use Rattle.session_rules.specs.Valid.{IsDealOrNone};
 ghost use Rattle.session_bytes.specs.Reading.{items_of, part_kept, plains_of, AreDeals, AreRecords, IsRowOf, AreRows, empty_length, is_empty_part, AreOfNoRecords, AreOfNoRows};
 ghost use Rattle.std.specs.List.{list_all};
 

@@ -11,10 +11,11 @@ use Rattle.session_store.specs.Looking.{IsUnseen}
 use Rattle.session_store.specs.PairOpening.{IsPairOpened}
 use Rattle.session_store.specs.Stands.{header_in}
 use Rattle.session_store.specs.Value.{StoreValue}
+use Rattle.session_store.specs.declared.fault.PairFault.{PairFault}
 use Rattle.session_store.specs.declared.fault.StoreFault.{StoreFault}
 use Rattle.session_store.specs.declared.fault.StoreFault.TheVariants.{TooSmall}
 use Rattle.session_pair.specs.Joining.{HasJoined, IsOne, OpensInOrder, SeesBoth}
-use Rattle.session_pair.specs.Unjoined.{IsUnopened, IsUnopenedInOrder, IsUnread}
+use Rattle.session_pair.specs.Unjoined.{pair_fault, AreInOrder, IsNotOpened, IsUnopened, IsUnopenedInOrder, IsUnread}
 use Rattle.session_pair.specs.declared.joining.Judged.{Judged}
 use Rattle.session_pair.specs.declared.joining.JoinFault.{JoinFault}
 
@@ -49,14 +50,16 @@ module _ {D : Type 0} (disk : Disk D) (d e d' e' : D) (judged found : Judged) (v
     works = works;
   }
 
-module _ {D : Type 0} (disk : Disk D) (d e : D) (fault : JoinFault) where
+module _ {D : Type 0} (disk : Disk D) (d e d' e' : D) (fault : JoinFault) where
   -- they could not be opened, the disk first
-  pub disk_unopened : (disk_first : Bool) → disk_first ≡ true → IsUnopened disk disk_first d e fault → IsUnopenedInOrder disk disk_first d e fault
+  pub disk_unopened : (disk_first : Bool) → disk_first ≡ true → IsUnopened disk disk_first d e d' e' fault
+      → IsUnopenedInOrder disk disk_first d e d' e' fault
   disk_unopened true first why = why
   disk_unopened false first why = cc
 
   -- or the copy
-  pub copy_unopened : (disk_first : Bool) → disk_first ≡ false → IsUnopened disk disk_first e d fault → IsUnopenedInOrder disk disk_first d e fault
+  pub copy_unopened : (disk_first : Bool) → disk_first ≡ false → IsUnopened disk disk_first e d d' e' fault
+      → IsUnopenedInOrder disk disk_first d e d' e' fault
   copy_unopened false second why = why
   copy_unopened true second why = cc
 
@@ -75,6 +78,15 @@ second_lost disk d e v w opened none = of_copy (cases_Bool w.failed)
     of_copy : (w.failed ≡ true) ⊎ (w.failed ≡ false) → w.failed ≡ true
     of_copy (inl lost) = lost
     of_copy (inr works) = absurd (none (opened.works, works, opened.none_pending.0, opened.none_pending.1))
+
+-- a pair that was not opened, by what came back of it
+pub unopened : {D : Type 0} (disk : Disk D) (first second a b d' e' : D) (disk_first : Bool) (cause : PairFault) (fault : JoinFault)
+    → IsNotOpened disk first second a b cause → fault ≡ pair_fault disk_first cause → AreInOrder disk_first a b d' e'
+    → IsUnopened disk disk_first first second d' e' fault
+unopened disk first second a b d' e' true cause fault why is back =
+    (cause, is, subst (λ x. IsNotOpened disk first second x e' cause) (sym back.0) (subst (λ y. IsNotOpened disk first second a y cause) (sym back.1) why))
+unopened disk first second a b d' e' false cause fault why is back =
+    (cause, is, subst (λ x. IsNotOpened disk first second x d' cause) (sym back.1) (subst (λ y. IsNotOpened disk first second a y cause) (sym back.0) why))
 
 -- what three clauses say of an answer they say together
 pub ok_with : {X E : Type 0} (P Q R T : X → Type 0) (r : Result X E) → ((x : X) → P x → Q x → R x → T x)

@@ -32,6 +32,11 @@ pair_fault disk_first (First fault) = side_fault disk_first fault
 pair_fault disk_first (Second fault) = side_fault (not disk_first) fault
 pair_fault disk_first SecondNewer = OtherPlays None
 
+-- these are the first and the second of a pair, the disk and the copy, in that order or the other
+abbrev pub AreInOrder : {D : Type 0} → Bool → D → D → D → D → Type 0
+AreInOrder true first second disk copy = (disk ≡ first) × (copy ≡ second)
+AreInOrder false first second disk copy = (disk ≡ second) × (copy ≡ first)
+
 -- what was read of a disk
 abbrev pub Held : Type 0
 Held = Reading SessionValue Action Refused
@@ -54,25 +59,32 @@ module _ {D : Type 0} (disk : Disk D) where
       ⊎ ((ours : Held) × (theirs : Held) × IsHeld d d' ours × IsHeld e e' theirs
       × IsUnjudged ours.state ours.epoch theirs.state theirs.epoch fault))
 
-  -- a pair of disks was not opened, and both came back; or it was, and one was lost in that, which counts as a fault of the second
-  abbrev pub IsNotOpened : D → D → PairFault → Type 0
-  IsNotOpened d e fault = ((d' : D) × (e' : D) × IsPairRefused session_keeping disk disk d e d' e' fault)
+  -- a pair of disks was not opened, and both came back; or it was, one was lost in that, which counts as a fault of the second, and
+  -- both came back from their stores
+  abbrev pub IsNotOpened : D → D → D → D → PairFault → Type 0
+  IsNotOpened d e d' e' fault = IsPairRefused session_keeping disk disk d e d' e' fault
       ⊎ ((v : StoreValue D SessionValue Action) × (w : StoreValue D SessionValue Action) × (fault ≡ Second DiskFailed)
-      × IsPairOpened session_keeping disk disk d e v w × (w.failed ≡ true))
+      × IsPairOpened session_keeping disk disk d e v w × (w.failed ≡ true) × (d' ≡ v.disk) × (e' ≡ w.disk))
 
-  -- the same, by whether the first of them was the disk, or the copy
-  abbrev pub IsUnopened : Bool → D → D → JoinFault → Type 0
-  IsUnopened disk_first d e fault = (cause : PairFault) × (fault ≡ pair_fault disk_first cause) × IsNotOpened d e cause
+  -- the same, where the first of them was the disk, or the copy, and the disk and the copy came back so
+  abbrev pub IsUnopened : Bool → D → D → D → D → JoinFault → Type 0
+  IsUnopened true d e d' e' fault = (cause : PairFault) × (fault ≡ pair_fault true cause) × IsNotOpened d e d' e' cause
+  IsUnopened false d e d' e' fault = (cause : PairFault) × (fault ≡ pair_fault false cause) × IsNotOpened d e e' d' cause
 
-  -- the same, where the disk was taken first, or the copy
-  abbrev pub IsUnopenedInOrder : Bool → D → D → JoinFault → Type 0
-  IsUnopenedInOrder true d e fault = IsUnopened true d e fault
-  IsUnopenedInOrder false d e fault = IsUnopened false e d fault
+  -- the same of a disk and a copy, of which the disk was taken first, or the copy
+  abbrev pub IsUnopenedInOrder : Bool → D → D → D → D → JoinFault → Type 0
+  IsUnopenedInOrder true d e d' e' fault = IsUnopened true d e d' e' fault
+  IsUnopenedInOrder false d e d' e' fault = IsUnopened false e d d' e' fault
+
+  -- two disks were only read, and how they stand was not found
+  abbrev pub IsUnjoinedUnwritten : D → D → D → D → JoinFault → Type 0
+  IsUnjoinedUnwritten d e d' e' fault = CannotJudge d e d' e' fault × Quiet disk d d' × Quiet disk e e'
 
   -- two disks were read, and how they stand was found, but they could not be opened so
   abbrev pub CannotOpen : D → D → D → D → JoinFault → Type 0
-  CannotOpen d e d' e' fault = (judged : Judged) × SeesBoth disk d e d' e' judged × IsUnopenedInOrder judged.disk_first d' e' fault
+  CannotOpen d e d' e' fault = (read : D) × (other_read : D) × (judged : Judged) × SeesBoth disk d e read other_read judged
+      × IsUnopenedInOrder judged.disk_first read other_read d' e' fault
 
-  -- why no session was opened on two disks: how they stand was not found, or they could not be opened so
-  abbrev pub IsNotJoined : D → D → JoinFault → Type 0
-  IsNotJoined d e fault = (d' : D) × (e' : D) × (CannotJudge d e d' e' fault ⊎ CannotOpen d e d' e' fault)
+  -- Why no session was opened on two disks, which came back: how they stand was not found, or they could not be opened so.
+  abbrev pub IsNotJoined : D → D → D → D → JoinFault → Type 0
+  IsNotJoined d e d' e' fault = IsUnjoinedUnwritten d e d' e' fault ⊎ CannotOpen d e d' e' fault

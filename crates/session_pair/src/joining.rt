@@ -2,7 +2,7 @@
 ghost use Rattle.std.specs.Prelude.{◌≡◌, ◌↔◌, true, IfOk, IfErr};
 ghost use Rattle.std.specs.Bool.{Decides};
 ghost use Rattle.session_pair.specs.Joining.{IsJudged, IsUnjudged, HasJoined, IsLacking, IsLackingInGreater, MayFollow, SeesBoth, IsOne};
-ghost use Rattle.session_pair.specs.Unjoined.{pair_fault, CannotJudge, IsNotJoined, IsUnopened};
+ghost use Rattle.session_pair.specs.Unjoined.{pair_fault, AreInOrder, CannotJudge, IsNotJoined, IsUnopened};
 ghost use Rattle.session_pair.specs.Choosing.{ComesFirst};
 ghost use Rattle.sector_disk.specs.Runs.{Quiet};
 ghost use Rattle.session_store.specs.PairOpening.{IsPairOpened};
@@ -12,7 +12,9 @@ use crate::comes_first;
 use bridge_movement::Row;
 use bridge_session::Session;
 use sector_disk::SectorDisk;
-use session_store::{PairFault, Reading, Store, StoreFault, is_same_state, open_pair, read_state};
+use session_store::{
+    PairFault, Reading, Store, StoreFault, UnopenedPair, is_same_state, open_pair, read_state,
+};
 use std::alloc::{AllocError, Global};
 use std::cmp::Ordering;
 
@@ -48,6 +50,17 @@ pub struct Joined<S: Drop> {
     pub second: S,
     /// How they stood to each other.
     pub judged: Judged,
+}
+
+/// Both disks on which no session was opened, and why.
+#[derive(Drop)]
+pub struct Unjoined<D: Drop> {
+    /// The disk.
+    pub disk: D,
+    /// The copy.
+    pub copy: D,
+    /// Why no session was opened on them.
+    pub fault: JoinFault,
 }
 
 /// Whether two sessions are of one configuration.
@@ -180,6 +193,32 @@ fn fault_of(disk_first: bool, fault: PairFault) -> JoinFault
     }
 }
 
+/// The disks of a pair that was not opened, of which the disk was the first, or the copy.
+fn unjoined<D: SectorDisk + Drop>(disk_first: bool, pair: UnopenedPair<D, D>) -> Unjoined<D>
+    ensures fault { result.fault ≡ pair_fault disk_first pair.fault }
+    ensures disks { AreInOrder disk_first pair.first pair.second result.disk result.copy }
+{
+    let UnopenedPair {
+        first,
+        second,
+        fault,
+    } = pair;
+    let fault = fault_of(disk_first, fault);
+    if disk_first {
+        Unjoined {
+            disk: first,
+            copy: second,
+            fault,
+        }
+    } else {
+        Unjoined {
+            disk: second,
+            copy: first,
+            fault,
+        }
+    }
+}
+
 /// Opens a session on two disks in that order, where both are kept then. One that fails while the other's state is brought to it
 /// is the fault.
 fn open_both<D: SectorDisk + Drop>(
@@ -187,11 +226,11 @@ fn open_both<D: SectorDisk + Drop>(
     judged: Judged,
     first: D,
     second: D,
-) -> Result<Joined<Store<D, Session>>, JoinFault>
+) -> Result<Joined<Store<D, Session>>, Unjoined<D>>
     ensures opened { IfOk result (λ joined. IsPairOpened session_keeping D.disk D.disk first second joined.first joined.second) }
     ensures judged { IfOk result (λ joined. joined.judged ≡ judged) }
     ensures level { IfOk result (λ joined. IsOne joined.first joined.second) }
-    ensures fault { IfErr result (IsUnopened D.disk judged.disk_first first second) }
+    ensures fault { IfErr result (λ e. IsUnopened D.disk judged.disk_first first second e.disk e.copy e.fault) }
 {
     match open_pair(alloc, first, second) {
         Ok((first, second)) => {
@@ -202,27 +241,32 @@ fn open_both<D: SectorDisk + Drop>(
                     judged,
                 });
             }
-            let fault = PairFault::Second(StoreFault::Disk);
-            Err(fault_of(judged.disk_first, fault))
+            let unopened = UnopenedPair {
+                first: first.into_disk(),
+                second: second.into_disk(),
+                fault: PairFault::Second(StoreFault::Disk),
+            };
+            Err(unjoined(judged.disk_first, unopened))
         }
-        Err(unopened) => Err(fault_of(judged.disk_first, unopened.fault)),
+        Err(unopened) => Err(unjoined(judged.disk_first, unopened)),
     }
 }
 
 /// Opens the session that two disks hold. Both are read whole before anything is written. The one of the greater epoch is taken
-/// first, and of one epoch that with more records; the other is brought to its state.
+/// first, and of one epoch that with more records; the other is brought to its state. At an error both come back, and they were only
+/// read where the fault is that one gave no session or that they differ.
 pub fn join_disks<D: SectorDisk + Drop>(
     alloc: Global,
     disk: D,
     copy: D,
-) -> Result<Joined<Store<D, Session>>, JoinFault>
+) -> Result<Joined<Store<D, Session>>, Unjoined<D>>
     ensures joined { IfOk result (λ joined. HasJoined D.disk disk copy joined.judged joined.first joined.second) }
-    ensures fault { IfErr result (IsNotJoined D.disk disk copy) }
+    ensures fault { IfErr result (λ e. IsNotJoined D.disk disk copy e.disk e.copy e.fault) }
 {
     let mut disk = disk;
     let mut copy = copy;
     match judge_disks(alloc, &mut disk, &mut copy) {
-        Err(fault) => Err(fault),
+        Err(fault) => Err(Unjoined { disk, copy, fault }),
         Ok(judged) => {
             if judged.disk_first {
                 open_both(alloc, judged, disk, copy)

@@ -13,5 +13,5 @@ mod joining;
 mod telling;
 
 pub use choosing::comes_first;
-pub use joining::{JoinFault, Joined, Judged, join_disks, judge};
+pub use joining::{JoinFault, Joined, Judged, Unjoined, join_disks, judge};
 pub use telling::{settle_served, shown_state};

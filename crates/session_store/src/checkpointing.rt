@@ -1,5 +1,5 @@
 //! Making checkpoints.
-ghost use Rattle.std.specs.Prelude.{◌≡◌, ◌<◌, ◌≤◌, ◌+◌, ◌-◌, ◌^◌, [], false, MatchResult, OnOk};
+ghost use Rattle.std.specs.Prelude.{◌≡◌, ◌<◌, ◌+◌, ◌-◌, ◌^◌, [], MatchResult, OnOk};
 ghost use Rattle.session_store.specs.Answers.{Checkpoints, after_fault, after_snapshot};
 ghost use Rattle.session_store.specs.Snapshot.{WritesSnapshot};
 ghost use Rattle.session_store.specs.Sound.{StandsOnlyFor};

@@ -1,5 +1,5 @@
 //! Bringing the state of a store to a second disk.
-ghost use Rattle.std.specs.Prelude.{◌≡◌, ◌≢◌, ◌<◌, ◌≤◌, ◌^◌, [], false, IfOk, IfErr, OnOk};
+ghost use Rattle.std.specs.Prelude.{◌≡◌, ◌≢◌, ◌<◌, ◌≤◌, [], false, IfOk, IfErr, OnOk};
 ghost use Rattle.sector_disk.specs.Disk.{Rose};
 ghost use Rattle.sector_disk.specs.Runs.{Quiet};
 ghost use Rattle.session_store.specs.Copying.{BeginsCopy, CannotPrepare, GoesOn};

@@ -1,5 +1,5 @@
 //! Reading the parts of a snapshot.
-ghost use Rattle.std.specs.Prelude.{◌≡◌, ◌<◌, ◌≤◌, ◌+◌, [], IfErr, IfOk, Ok, OnErr, OnOk, Some, map, vec_capacity};
+ghost use Rattle.std.specs.Prelude.{◌≡◌, ◌<◌, ◌≤◌, ◌+◌, [], IfErr, IfOk, Ok, OnOk, Some, map, vec_capacity};
 ghost use Rattle.sector_disk.specs.Runs.{Quiet};
 ghost use Rattle.session_store.specs.Form.{part_mark, payload_in, place};
 ghost use Rattle.session_store.specs.Layout.{part_limit, sector_count};

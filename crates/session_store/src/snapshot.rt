@@ -1,6 +1,6 @@
 //! Writing a snapshot, of the second format: its parts, and over them, once they are on the disk, its header.
 ghost use Rattle.std.specs.Prelude.{◌≡◌, ◌<◌, ◌≤◌, ◌+◌, [], length, slice_index_or, OnOk, OnErr};
-ghost use Rattle.sector_disk.specs.Disk.{Image, Rose};
+ghost use Rattle.sector_disk.specs.Disk.{Rose};
 ghost use Rattle.sector_disk.specs.Calls.{WriteCall};
 ghost use Rattle.sector_disk.specs.Runs.{EveryMoment, Remains};
 ghost use Rattle.session_store.specs.declared.disk_format.DiskFormat.TheVariants.{Two};

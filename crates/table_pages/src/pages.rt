@@ -1,11 +1,11 @@
 //! The pages, and the lines that they post.
-ghost use Rattle.std.specs.Prelude.{◌≡◌, ◌<◌, ◌⊎◌, ℕ, List, [], None, true, false, not, length, nat_lt, string_bytes, OnOk, OnErr, if◌then◌else◌};
+ghost use Rattle.std.specs.Prelude.{◌≡◌, ◌<◌, ◌⊎◌, [], None, true, false, not, length, nat_lt, string_bytes, OnOk, OnErr, if◌then◌else◌};
 ghost use Rattle.http_server.specs.Response.{IsBlank};
 ghost use Rattle.http.specs.Request.{head_of};
 ghost use Rattle.web_requests.specs.Filled.{IsText, IsUnavailable};
 ghost use Rattle.web_requests.specs.Route.{route_for};
 ghost use Rattle.table_pages.specs.Failing.{TellsState};
-ghost use Rattle.table_pages.specs.WrongKeys.{with_key, with_more, CountsLines, CountsShort};
+ghost use Rattle.table_pages.specs.WrongKeys.{with_more, CountsLines, CountsPosted};
 
 use crate::host_names::HostNames;
 use crate::line_server::LineServer;
@@ -57,7 +57,7 @@ pub struct TablePages<T: LineServer, K: Seconds> {
     texts: PageTexts,
     server: T,
     cache: Cache,
-    /// How many wrong keys were answered.
+    /// How many wrong keys came.
     wrong: u64,
     /// Whether players are told of other tables.
     is_open: bool,
@@ -87,11 +87,9 @@ impl<T: LineServer, K: Seconds> TablePages<T, K> {
     ) -> TablePages<T, K>
         requires { T.is_ready server ≡ true }
         ensures server { result.server ≡ server }
-        ensures names { result.names ≡ names }
-        ensures texts { result.texts ≡ texts }
+        ensures fixed { (result.names ≡ names) × (result.texts ≡ texts) }
         ensures begun { (result.wrong ≡ 0) × (result.is_open ≡ false) × (result.people.items ≡ []) }
-        ensures desk { result.desk ≡ desk }
-        ensures clock { result.clock ≡ clock }
+        ensures beside { (result.desk ≡ desk) × (result.clock ≡ clock) }
         ensures wishes { (result.wishes.wish ≡ None) × (result.wishes.waits ≡ 0) }
     {
         TablePages {
@@ -140,8 +138,7 @@ impl<T: LineServer, K: Seconds> TablePages<T, K> {
     ) -> Result<(), AllocError>
         requires { IsBlank response.old }
         ensures lines { OnOk result (TellsShort (T.answers set) (nat_lt (length body.now) 65536) self.old.server body.now response.new self.new.server) }
-        ensures counted { OnOk result (CountsShort (nat_lt (length body.now) 65536) (T.counts set self.old.server body.now)
-            (T.answers set self.old.server body.now None self.new.server) self.old.wrong self.new.wrong) }
+        ensures counted { OnOk result (CountsPosted T.answers T.counts set self.old.server body.now self.new.server self.old.wrong self.new.wrong) }
         ensures fixed { (self.new.names ≡ self.old.names) × (self.new.texts ≡ self.old.texts) × (self.new.people ≡ self.old.people) × (self.new.wishes ≡ self.old.wishes) }
         ensures beside { (self.new.is_open ≡ self.old.is_open) × (self.new.desk ≡ self.old.desk) }
         ensures err { OnErr result (self.new ≡ self.old) }
@@ -152,38 +149,6 @@ impl<T: LineServer, K: Seconds> TablePages<T, K> {
         } else {
             put_refusal(response, Refusal::TooLong)
         }
-    }
-
-    /// Answers a key with what its player is told of his place.
-    fn put_place(&mut self, key: &[u8], response: &mut Response) -> Result<(), AllocError>
-        requires { IsBlank response.old }
-        ensures told { OnOk result (TellsState (T.failed self.old.server) (T.places self.old.server key.now) response.new) }
-        ensures counted { OnOk result (self.new.wrong ≡ with_key self.old.wrong (T.wrong_key self.old.server key.now)) }
-        ensures server { self.new.server ≡ self.old.server }
-        ensures fixed { (self.new.names ≡ self.old.names) × (self.new.texts ≡ self.old.texts) × (self.new.people ≡ self.old.people) × (self.new.wishes ≡ self.old.wishes) }
-        ensures beside { (self.new.is_open ≡ self.old.is_open) × (self.new.desk ≡ self.old.desk) }
-        ensures err { OnErr result (self.new ≡ self.old) }
-    {
-        let mut text = ReplyText::new();
-        self.server.place(key, &mut text);
-        let wrong = self.server.has_wrong_key(key);
-        self.put_state(response, text.as_str().as_bytes(), count_of(wrong))
-    }
-
-    /// Answers the director's key with what is told of all tables.
-    fn put_tables(&mut self, key: &[u8], response: &mut Response) -> Result<(), AllocError>
-        requires { IsBlank response.old }
-        ensures told { OnOk result (TellsState (T.failed self.old.server) (T.tables self.old.server key.now) response.new) }
-        ensures counted { OnOk result (self.new.wrong ≡ with_key self.old.wrong (T.wrong_key self.old.server key.now)) }
-        ensures server { self.new.server ≡ self.old.server }
-        ensures fixed { (self.new.names ≡ self.old.names) × (self.new.texts ≡ self.old.texts) × (self.new.people ≡ self.old.people) × (self.new.wishes ≡ self.old.wishes) }
-        ensures beside { (self.new.is_open ≡ self.old.is_open) × (self.new.desk ≡ self.old.desk) }
-        ensures err { OnErr result (self.new ≡ self.old) }
-    {
-        let mut text = ReplyText::new();
-        self.server.tables(key, &mut text);
-        let wrong = self.server.has_wrong_key(key);
-        self.put_state(response, text.as_str().as_bytes(), count_of(wrong))
     }
 
     /// Answers posted lines of that set. Where memory is refused once they were taken, the response says nothing.

@@ -29,6 +29,7 @@ pub fn limits() -> Config
     ensures head { result.limits.max_head_len ≡ 8192 }
     ensures body { result.max_body_len ≡ 65535 }
     ensures pending { result.max_pending ≡ 0 }
+    ensures others { (result.read_size ≡ 8192) × (result.limits.max_extensions_len ≡ 16384) × (result.limits.max_trailers_len ≡ 16384) }
 {
     Config {
         limits: Limits {

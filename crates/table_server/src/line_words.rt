@@ -1,5 +1,5 @@
 //! What the words of a line of the protocol state.
-ghost use Rattle.std.specs.Prelude.{◌≡◌, ◌+◌, ◌*◌, ◌<◌, ◌≤◌, IfSome, length, map, true};
+ghost use Rattle.std.specs.Prelude.{◌≡◌, ◌+◌, ◌*◌, ◌<◌, ◌≤◌, length, map, true};
 ghost use Rattle.std.specs.List.{list_all, range_with_len};
 ghost use Rattle.line_text.specs.Words.{spaced_words};
 ghost use Rattle.line_replies.specs.KeyWord.{key_of_word};

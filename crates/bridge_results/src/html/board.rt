@@ -1,5 +1,5 @@
 //! A board in HTML: its hands and what could be made, its traveller, its frequencies, and how each table played it.
-ghost use Rattle.std.specs.Prelude.{◌≡◌, ◌≤◌, ◌++◌, length};
+ghost use Rattle.std.specs.Prelude.{◌≡◌, ◌≤◌, length};
 ghost use Rattle.line_text.specs.Streams.{stream, Written};
 ghost use Rattle.bridge_results.specs.Costs.{seen};
 ghost use Rattle.bridge_results.specs.HtmlBoard.{available_on, board_start, html_hands, html_deal, html_tables, html_played, board_html};

@@ -1,8 +1,7 @@
 //! The sheet of the boards in HTML.
-ghost use Rattle.std.specs.Prelude.{◌≡◌, ◌≤◌, ◌++◌, codes, length, flat_map};
-ghost use Rattle.std.specs.List.{range_with_len};
+ghost use Rattle.std.specs.Prelude.{◌≡◌, ◌≤◌, codes, length};
 ghost use Rattle.line_text.specs.Streams.{stream, Written};
-ghost use Rattle.page_layout.specs.Page.{section_end, paragraph_text};
+ghost use Rattle.page_layout.specs.Page.{paragraph_text};
 ghost use Rattle.page_layout.specs.declared.format.Format.TheVariants.{Html};
 ghost use Rattle.bridge_results.specs.Costs.{seen, costs_note};
 ghost use Rattle.bridge_results.specs.HtmlPage.{played_html, html_board_on, html_boards, boards_start, html_board_sheet};

@@ -1,10 +1,9 @@
 //! The auction of a board at a table in HTML, and its play behind it.
-ghost use Rattle.std.specs.Prelude.{◌≡◌, ◌+◌, ◌≤◌, ◌<◌, ◌++◌, codes, length, map, flat_map, slice_get};
-ghost use Rattle.std.specs.List.{range_with_len};
-ghost use Rattle.std.specs.Option.{option_copied, option_map_or};
+ghost use Rattle.std.specs.Prelude.{◌≡◌, ◌+◌, ◌≤◌, ◌<◌, length, map};
+ghost use Rattle.std.specs.Option.{option_copied};
 ghost use Rattle.line_text.specs.Streams.{stream, Written};
 ghost use Rattle.bridge_config.specs.ConfigValue.{pair_of};
-ghost use Rattle.bridge_results.specs.HtmlCourse.{call_words, call_cell, call_row, fours, letter_from, auction_head, call_rows, auction_html, play_part, calls_and_cards, course_html};
+ghost use Rattle.bridge_results.specs.HtmlCourse.{call_words, call_cell, call_row, letter_from, auction_head, call_rows, auction_html, calls_and_cards, course_html};
 
 use crate::html::columns::CALL_COLUMNS;
 use crate::html::links::play_target;

@@ -1,8 +1,8 @@
 //! The front of the page in HTML: the event and the rankings.
-ghost use Rattle.std.specs.Prelude.{◌≡◌, ◌≤◌, ◌++◌, codes, length};
+ghost use Rattle.std.specs.Prelude.{◌≡◌, ◌≤◌, length};
 ghost use Rattle.line_text.specs.Streams.{stream, Written};
 ghost use Rattle.bridge_results.specs.RankingText.{ranked_items};
-ghost use Rattle.bridge_results.specs.HtmlPage.{html_field, first_heading, html_rankings, page_links, html_event, html_front};
+ghost use Rattle.bridge_results.specs.HtmlPage.{html_field, first_heading, html_rankings, html_event, html_front};
 
 use crate::html::ranking::write_ranking;
 use crate::pages::page::write_event;

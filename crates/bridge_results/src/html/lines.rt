@@ -1,9 +1,7 @@
 //! The traveller of a board in HTML.
-ghost use Rattle.std.specs.Prelude.{◌≡◌, ◌≤◌, ◌++◌, length, flat_map};
+ghost use Rattle.std.specs.Prelude.{◌≡◌, ◌≤◌, ◌++◌, length};
 ghost use Rattle.std.specs.Fmt.{decimal};
-ghost use Rattle.std.specs.Option.{option_map};
 ghost use Rattle.line_text.specs.Streams.{stream, Written};
-ghost use Rattle.page_layout.specs.Table.{table_end};
 ghost use Rattle.page_layout.specs.declared.format.Format.TheVariants.{Html};
 ghost use Rattle.bridge_cards.specs.declared.scoring.Scoring.TheVariants.{MatchPoints, Imps};
 ghost use Rattle.bridge_results.specs.BoardText.{side_gain};

@@ -5,7 +5,6 @@ ghost use Rattle.arrayvec.specs.ArrayVec.{array_vec_len};
 ghost use Rattle.line_text.specs.Streams.{stream, Written};
 ghost use Rattle.page_layout.specs.Table.{table_end};
 ghost use Rattle.page_layout.specs.declared.format.Format.TheVariants.{Html};
-ghost use Rattle.bridge_results.specs.Frequencies.{frequencies_of};
 ghost use Rattle.bridge_results.specs.HtmlOften.{rect, bar, often_row, often_head, often_table, often_html};
 
 use crate::frequency::{Frequency, frequencies};

@@ -1,5 +1,5 @@
 //! The results of a session as one HTML page, whole.
-ghost use Rattle.std.specs.Prelude.{◌≡◌, ◌++◌};
+ghost use Rattle.std.specs.Prelude.{◌≡◌};
 ghost use Rattle.line_text.specs.Streams.{stream, Written};
 ghost use Rattle.bridge_results.specs.RankingText.{ranked_items};
 ghost use Rattle.bridge_results.specs.Costs.{seen};

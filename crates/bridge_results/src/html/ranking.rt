@@ -1,11 +1,9 @@
 //! The ranking of a field in HTML.
-ghost use Rattle.std.specs.Prelude.{◌≡◌, ◌≤◌, ◌++◌, length, map, flat_map};
+ghost use Rattle.std.specs.Prelude.{◌≡◌, ◌≤◌, length, map};
 ghost use Rattle.line_text.specs.Streams.{stream, Written};
 ghost use Rattle.bridge_config.specs.ConfigValue.{pair_of};
 ghost use Rattle.bridge_cards.specs.declared.scoring.Scoring.TheVariants.{MatchPoints, Imps};
 ghost use Rattle.page_layout.specs.declared.format.Format.TheVariants.{Html};
-ghost use Rattle.page_layout.specs.Page.{section_end};
-ghost use Rattle.page_layout.specs.Table.{table_end};
 ghost use Rattle.bridge_results.specs.HtmlPage.{html_ranked, html_ranking_start, html_ranked_rows, html_ranking_of, html_ranking};
 
 use crate::html::links::{linked_row, pair_target};

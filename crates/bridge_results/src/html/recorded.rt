@@ -1,11 +1,11 @@
 //! How a board was played at a table, as the session's record tells.
-ghost use Rattle.std.specs.Prelude.{◌≡◌, ◌-◌, ◌≤◌, ◌++◌, flat_map};
+ghost use Rattle.std.specs.Prelude.{◌≡◌, ◌-◌};
 ghost use Rattle.std.specs.Option.{option_copied};
 ghost use Rattle.line_text.specs.Streams.{stream, Written};
 ghost use Rattle.bridge_movement.specs.Boards.{boards_before};
 ghost use Rattle.session_rules.specs.State.{record_of};
 ghost use Rattle.bridge_results.specs.HtmlBoard.{line_course, courses_html};
-ghost use Rattle.bridge_results.specs.HtmlCourse.{id_by, is_id, shown_id, course_html, found_html, course_on};
+ghost use Rattle.bridge_results.specs.HtmlCourse.{is_id, shown_id, course_html, found_html, course_on};
 
 use crate::analysis::{PlayCosts, costs_at};
 use crate::html::course::write_course;

@@ -1,5 +1,5 @@
 //! What is shown of a table's play of a board before it is opened: the pairs and what came of it.
-ghost use Rattle.std.specs.Prelude.{◌≡◌, ◌≤◌, ◌++◌, length, map};
+ghost use Rattle.std.specs.Prelude.{◌≡◌, ◌≤◌, length, map};
 ghost use Rattle.line_text.specs.Streams.{stream, Written};
 ghost use Rattle.bridge_config.specs.ConfigValue.{pair_of};
 ghost use Rattle.bridge_results.specs.HtmlCourse.{pair_behind, meeting_words, first_names, second_names, summary_end, summary_html};

@@ -1,12 +1,11 @@
 //! The play of a board at a table in HTML, trick by trick.
-ghost use Rattle.std.specs.Prelude.{◌≡◌, ◌+◌, ◌≤◌, ◌<◌, ◌++◌, [], length, flat_map, slice_get, codes, option_and_then};
-ghost use Rattle.std.specs.List.{range_with_len};
+ghost use Rattle.std.specs.Prelude.{◌≡◌, ◌+◌, ◌≤◌, ◌<◌, ◌++◌, [], length, slice_get};
 ghost use Rattle.std.specs.Option.{option_copied, option_map_or};
 ghost use Rattle.line_text.specs.Streams.{stream, Written};
 ghost use Rattle.bridge_play.specs.Trick.{whole_tricks};
 ghost use Rattle.bridge_results.specs.HtmlCells.{perhaps_card};
 ghost use Rattle.bridge_results.specs.Costs.{cost_mark, marked_card};
-ghost use Rattle.bridge_results.specs.HtmlCourse.{fours, winner_cell, trick_row, tricks_head, trick_rows, claim_words, agreed_claim, claim_html, play_end, play_html, play_part};
+ghost use Rattle.bridge_results.specs.HtmlCourse.{winner_cell, trick_row, tricks_head, trick_rows, claim_words, agreed_claim, claim_html, play_end, play_html, play_part};
 
 use crate::html::cells::perhaps_card;
 use crate::html::columns::TRICK_COLUMNS;

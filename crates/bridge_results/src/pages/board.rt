@@ -4,8 +4,7 @@ ghost use Rattle.std.specs.Option.{option_copied};
 ghost use Rattle.line_text.specs.Streams.{stream, Written};
 ghost use Rattle.page_layout.specs.Page.{section_end};
 ghost use Rattle.page_layout.specs.Table.{table_end};
-ghost use Rattle.bridge_results.specs.Frequencies.{frequencies_of};
-ghost use Rattle.bridge_results.specs.BoardText.{board_words, deal_words, board_head, side_gain, line_row, line_titles, traveller_text, frequencies_text, hands_text, deal_text, board_tables, board_text};
+ghost use Rattle.bridge_results.specs.BoardText.{board_words, deal_words, board_head, side_gain, line_row, line_titles, traveller_text, hands_text, deal_text, board_tables, board_text};
 
 use crate::compare::Comparison;
 use crate::makeable::Makeable;

@@ -1,5 +1,5 @@
 //! The head of the page: which event was played where and when, and how.
-ghost use Rattle.std.specs.Prelude.{◌≡◌, ◌+◌, ◌≤◌, ◌++◌, length};
+ghost use Rattle.std.specs.Prelude.{◌≡◌, ◌≤◌, length};
 ghost use Rattle.bridge_movement.specs.Shape.{IsShape};
 ghost use Rattle.bridge_results.specs.EventText.{scoring_words, place_words, count_words, event_text};
 

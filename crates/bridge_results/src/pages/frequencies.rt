@@ -1,7 +1,6 @@
 //! How often each score of a board was made.
-ghost use Rattle.std.specs.Prelude.{◌≡◌, ◌≤◌, length, flat_map};
+ghost use Rattle.std.specs.Prelude.{◌≤◌, length, flat_map};
 ghost use Rattle.line_text.specs.Streams.{stream, Written};
-ghost use Rattle.page_layout.specs.Table.{table_end};
 ghost use Rattle.bridge_results.specs.Frequencies.{frequencies_of};
 ghost use Rattle.bridge_results.specs.BoardText.{frequency_row, frequency_titles, frequencies_text};
 

@@ -1,5 +1,5 @@
 //! The results of a session, whole.
-ghost use Rattle.std.specs.Prelude.{◌≡◌, List, Option};
+ghost use Rattle.std.specs.Prelude.{◌≡◌, Option};
 ghost use Rattle.line_text.specs.Streams.{stream, Written};
 ghost use Rattle.bridge_score.specs.declared.ranking.Ranked.{Ranked};
 ghost use Rattle.bridge_ranking.specs.declared.field.Field.TheVariants.{First, Second};
@@ -7,7 +7,7 @@ ghost use Rattle.page_layout.specs.Page.{page_end};
 ghost use Rattle.bridge_results.specs.EventText.{event_text};
 ghost use Rattle.bridge_results.specs.RankingText.{ranked_items, field_text};
 ghost use Rattle.bridge_results.specs.Costs.{seen};
-ghost use Rattle.bridge_results.specs.ResultsText.{ranked_text, rankings_text, front_text, sheets_text, plain_page, IsFieldRanking, WritesPage, WritesNamedPage};
+ghost use Rattle.bridge_results.specs.ResultsText.{ranked_text, rankings_text, front_text, sheets_text, plain_page, WritesPage, WritesNamedPage};
 
 use crate::analysis::Analysis;
 use crate::html::write_html;

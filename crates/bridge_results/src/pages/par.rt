@@ -1,9 +1,7 @@
 //! The par of a board.
-ghost use Rattle.std.specs.Prelude.{◌≡◌, ◌≤◌, ◌+◌, ◌++◌, length, flat_map};
+ghost use Rattle.std.specs.Prelude.{◌≡◌, ◌≤◌, ◌+◌, ◌++◌, length};
 ghost use Rattle.arrayvec.specs.ArrayVec.{array_vec_len};
 ghost use Rattle.line_text.specs.Streams.{stream, Written};
-ghost use Rattle.bridge_auction.specs.Spelling.{bid_text};
-ghost use Rattle.bridge_results.specs.HtmlCells.{doubled_marks};
 ghost use Rattle.bridge_results.specs.MakeableText.{par_label, par_start, par_end, par_gap, par_bid, par_contract, par_contract_at, par_contracts_text, par_text, board_par};
 
 use crate::html::cells::doubled_bid;

@@ -1,5 +1,5 @@
 //! What players and the director do in a session.
-ghost use Rattle.std.specs.Prelude.{◌≡◌, ◌+◌, ◌<◌, OnOk, OnErr, if◌then◌else◌, Some, None, take, drop, slice_set, ◌-◌};
+ghost use Rattle.std.specs.Prelude.{◌≡◌, ◌+◌, ◌<◌, OnOk, OnErr, Some, None, take, drop, slice_set, ◌-◌};
 ghost use Rattle.std.specs.List.{list_any};
 ghost use Rattle.session_rules.specs.Record.{is_open};
 ghost use Rattle.session_rules.specs.State.{director_answer, record_of};

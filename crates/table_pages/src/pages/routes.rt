@@ -3,6 +3,7 @@ ghost use Rattle.std.specs.Prelude.{◌≡◌, OnOk, OnErr};
 ghost use Rattle.http_server.specs.Response.{IsBlank};
 ghost use Rattle.line_replies.specs.ReplyTexts.{short_text};
 ghost use Rattle.web_requests.specs.Filled.{IsText};
+ghost use Rattle.table_pages.specs.Failing.{TellsState};
 ghost use Rattle.table_pages.specs.FirstLine.{first_line};
 ghost use Rattle.table_pages.specs.Opened.{Opens};
 ghost use Rattle.table_pages.specs.People.{names_text};
@@ -60,6 +61,38 @@ impl<T: LineServer, K: Seconds> TablePages<T, K> {
             Route::Names => self.put_names(body, response),
             Route::Refused(refusal) => put_refused(&self.texts, refusal, response),
         }
+    }
+
+    /// Answers a key with what its player is told of his place.
+    fn put_place(&mut self, key: &[u8], response: &mut Response) -> Result<(), AllocError>
+        requires { IsBlank response.old }
+        ensures told { OnOk result (TellsState (T.failed self.old.server) (T.places self.old.server key.now) response.new) }
+        ensures counted { OnOk result (self.new.wrong ≡ with_key self.old.wrong (T.wrong_key self.old.server key.now)) }
+        ensures server { self.new.server ≡ self.old.server }
+        ensures fixed { (self.new.names ≡ self.old.names) × (self.new.texts ≡ self.old.texts) × (self.new.people ≡ self.old.people) × (self.new.wishes ≡ self.old.wishes) }
+        ensures beside { (self.new.is_open ≡ self.old.is_open) × (self.new.desk ≡ self.old.desk) }
+        ensures err { OnErr result (self.new ≡ self.old) }
+    {
+        let mut text = ReplyText::new();
+        self.server.place(key, &mut text);
+        let wrong = self.server.has_wrong_key(key);
+        self.put_state(response, text.as_str().as_bytes(), count_of(wrong))
+    }
+
+    /// Answers the director's key with what is told of all tables.
+    fn put_tables(&mut self, key: &[u8], response: &mut Response) -> Result<(), AllocError>
+        requires { IsBlank response.old }
+        ensures told { OnOk result (TellsState (T.failed self.old.server) (T.tables self.old.server key.now) response.new) }
+        ensures counted { OnOk result (self.new.wrong ≡ with_key self.old.wrong (T.wrong_key self.old.server key.now)) }
+        ensures server { self.new.server ≡ self.old.server }
+        ensures fixed { (self.new.names ≡ self.old.names) × (self.new.texts ≡ self.old.texts) × (self.new.people ≡ self.old.people) × (self.new.wishes ≡ self.old.wishes) }
+        ensures beside { (self.new.is_open ≡ self.old.is_open) × (self.new.desk ≡ self.old.desk) }
+        ensures err { OnErr result (self.new ≡ self.old) }
+    {
+        let mut text = ReplyText::new();
+        self.server.tables(key, &mut text);
+        let wrong = self.server.has_wrong_key(key);
+        self.put_state(response, text.as_str().as_bytes(), count_of(wrong))
     }
 
     /// Answers a request to wait, at once; its answer is held by who sends it.

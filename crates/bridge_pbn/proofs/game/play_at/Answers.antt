@@ -1,10 +1,10 @@
 use Rattle.std.proofs.lemmas.Bool.{and_parts}
-use Rattle.std.proofs.Common.{◌≡◌, ◌+◌, ◌-◌, ◌*◌, ◌≤◌, ◌<◌, ℕ, zero, suc, arith, ap, ◌∙◌, sym}
+use Rattle.std.proofs.Common.{◌≡◌, ◌+◌, ◌-◌, ◌*◌, ◌≤◌, ◌<◌, ℕ, zero, suc, arith, ap}
 use Rattle.std.specs.Prelude.{nat_le}
 use Rattle.std.proofs.lemmas.Bool.{leb-true}
 use Rattle.std.proofs.Math.Nat.{suc-mul}
 use Rattle.bridge_config.specs.ConfigValue.{ConfigValue}
-use Rattle.bridge_config.specs.Limits.{is_between, IsConfiguration}
+use Rattle.bridge_config.specs.Limits.{IsConfiguration}
 use Rattle.bridge_pbn.proofs.game.play_at.Goals as goal
 
 -- a set has its boards behind those of the sets before it

@@ -1,7 +1,6 @@
 use Rattle.std.proofs.Common.{map, drop}
 use Rattle.std.specs.List.{AllZip}
 use Rattle.bridge_table.specs.Kept.{plain_of}
-use Rattle.bridge_table.specs.declared.record.Record.{Record}
 use Rattle.bridge_session.specs.HasAll.{HasPlay}
 use Rattle.bridge_session.proofs.HasAllLaws.{IsStill}
 use Rattle.bridge_session.proofs.containing.have_tables.Given as goal

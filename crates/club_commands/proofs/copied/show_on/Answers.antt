@@ -8,4 +8,6 @@ returns-in-Ok g c =
     inr (joined.judged, joined.first, joined.second, c.in-Ok.ensures.joined, c.show_opened.ensures)
 
 pub returns-in-Err : goal.returns-in-Err
-returns-in-Err g c = inl (_, (c.in-Err.fault, c.in-Err.ensures.fault, refl), refl, Keeps-refl _)
+returns-in-Err g c =
+    let unjoined = c.in-Err.unjoined in
+    inl (_, (unjoined.fault, unjoined.disk, unjoined.copy, c.in-Err.ensures.fault, refl), refl, Keeps-refl _)

@@ -15,8 +15,9 @@ returns-then-judged g c =
           (λ joined opened same works. disk_taken disk c.args.disk c.args.copy read other c.in-Ok.judged joined.judged joined.first joined.second
           c.in-Ok.ensures.judged c.if-judged.true same opened works)
           c.open_both.ensures.opened c.open_both.ensures.judged c.open_both.ensures.level;
-      fault = IfErr-weaker c.open_both.result (IsUnopened disk judged.disk_first read other) (IsNotJoined disk c.args.disk c.args.copy)
-          (λ fault why. (read, other, inr (judged, c.in-Ok.ensures.judged, disk_unopened disk read other fault judged.disk_first c.if-judged.true why)))
+      fault = IfErr-weaker c.open_both.result (λ e. IsUnopened disk judged.disk_first read other e.disk e.copy e.fault)
+          (λ e. IsNotJoined disk c.args.disk c.args.copy e.disk e.copy e.fault)
+          (λ e why. inr (read, other, judged, c.in-Ok.ensures.judged, disk_unopened disk read other e.disk e.copy e.fault judged.disk_first c.if-judged.true why))
           c.open_both.ensures.fault;
     }
 
@@ -31,11 +32,11 @@ returns-else-judged g c =
           (λ joined opened same works. copy_taken disk c.args.disk c.args.copy read other c.in-Ok.judged joined.judged joined.first joined.second
           c.in-Ok.ensures.judged c.if-judged.false same opened works)
           c.open_both-else-judged.ensures.opened c.open_both-else-judged.ensures.judged c.open_both-else-judged.ensures.level;
-      fault = IfErr-weaker c.open_both-else-judged.result (IsUnopened disk judged.disk_first other read)
-          (IsNotJoined disk c.args.disk c.args.copy)
-          (λ fault why. (read, other, inr (judged, c.in-Ok.ensures.judged, copy_unopened disk read other fault judged.disk_first c.if-judged.false why)))
+      fault = IfErr-weaker c.open_both-else-judged.result (λ e. IsUnopened disk judged.disk_first other read e.disk e.copy e.fault)
+          (λ e. IsNotJoined disk c.args.disk c.args.copy e.disk e.copy e.fault)
+          (λ e why. inr (read, other, judged, c.in-Ok.ensures.judged, copy_unopened disk read other e.disk e.copy e.fault judged.disk_first c.if-judged.false why))
           c.open_both-else-judged.ensures.fault;
     }
 
 pub returns-in-Err-clause-fault : goal.returns-in-Err-clause-fault
-returns-in-Err-clause-fault g c = (c.judge_disks.new.disk, c.judge_disks.new.copy, inl c.in-Err.ensures.fault)
+returns-in-Err-clause-fault g c = inl (c.in-Err.ensures.fault, c.judge_disks.ensures.disk, c.judge_disks.ensures.copy)

@@ -1,5 +1,4 @@
-use Rattle.std.proofs.Common.{◌≡◌, sym, subst}
-use Rattle.bridge_auction.specs.Legal.{MayFollow, IsLegal}
+use Rattle.bridge_auction.specs.Legal.{MayFollow}
 use Rattle.bridge_auction.proofs.LessLast.{each_may_follow-less_last}
 use Rattle.bridge_auction.proofs.auction.Auction.take_back.Goals as goal
 

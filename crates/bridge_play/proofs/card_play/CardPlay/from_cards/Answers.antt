@@ -1,4 +1,4 @@
-use Rattle.std.proofs.Common.{◌≡◌, ◌∷◌, ◌++◌, [], ℕ, List, take, refl, sym, ap, subst, ◌∙◌, arith}
+use Rattle.std.proofs.Common.{◌≡◌, [], ℕ, List, take, refl, sym, ap, subst, ◌∙◌, arith}
 use Rattle.std.proofs.lemmas.List.{take_all}
 use Rattle.bridge_auction.specs.declared.contract.Contract.{Contract}
 use Rattle.bridge_cards.proofs.FollowLaws.{each_may_follow-next, each_may_follow-push, may_follow_front}

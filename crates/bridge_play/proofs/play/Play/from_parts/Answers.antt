@@ -6,7 +6,7 @@ use Rattle.bridge_play.specs.Legal.{IsLegal}
 use Rattle.bridge_play.specs.Play.{PlayValue, IsPlay, IsClaimIn, with_claims, playing, is_claim_in}
 use Rattle.bridge_play.proofs.RegularClaim.{regular_claim, claim_regular}
 use Rattle.bridge_play.proofs.play.Play.from_parts.Goals as goal
-use Rattle.bridge_play.proofs.play.Play.from_parts.Goals.{In-Some, in-Some+else-not-is_claim_in, in_default}
+use Rattle.bridge_play.proofs.play.Play.from_parts.Goals.{in-Some+else-not-is_claim_in, in_default}
 
 -- the claim of a play, where there is one, holds what a claim must
 claimed_by : (play : PlayValue) (claim : Option Claim) (made : Claim) → claim ≡ Some made → is_claim_in play made ≡ true → IfSome claim (IsClaimIn play)

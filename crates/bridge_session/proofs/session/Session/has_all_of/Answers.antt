@@ -1,9 +1,8 @@
-use Rattle.std.proofs.Common.{◌≡◌, ◌≤◌, true, false, rules, arith, map, Vec}
+use Rattle.std.proofs.Common.{◌≤◌, arith, map}
 use Rattle.std.specs.Bool.{Decides}
 use Rattle.std.specs.List.{AllZip}
 use Rattle.bridge_table.specs.Kept.{plain_of}
-use Rattle.bridge_table.specs.declared.record.Record.{Record}
-use Rattle.bridge_session.specs.HasAll.{HasDeal, HasPlay, HasAllOf}
+use Rattle.bridge_session.specs.HasAll.{HasDeal, HasPlay}
 use Rattle.bridge_session.proofs.HasAllLaws.{all_decided, failed}
 use Rattle.bridge_session.proofs.session.Session.has_all_of.Goals as goal
 

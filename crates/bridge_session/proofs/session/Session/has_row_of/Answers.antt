@@ -1,6 +1,5 @@
-use Rattle.std.proofs.Common.{◌∙◌, ap, map}
+use Rattle.std.proofs.Common.{map}
 use Rattle.bridge_table.specs.Kept.{plain_of}
-use Rattle.session_rules.specs.State.{row_at}
 use Rattle.bridge_session.proofs.HasAllLaws.{row_decided}
 use Rattle.bridge_session.proofs.session.Session.has_row_of.Goals as goal
 

@@ -1,4 +1,4 @@
-use Rattle.std.proofs.Common.{◌≡◌, Bool, List, ap, ◌∙◌, Vec, Global}
+use Rattle.std.proofs.Common.{Bool, List, ap, ◌∙◌, Vec, Global}
 use Rattle.std.specs.List.{list_any}
 use Rattle.bridge_table.specs.declared.record.Record.{Record}
 use Rattle.bridge_table.specs.Kept.{plain_of}
