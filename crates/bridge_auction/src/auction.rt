@@ -25,6 +25,7 @@ pub struct Auction {
 }
 
 impl Model for Auction {
+    ghost use Rattle.std.specs.Prelude.{ℕ};
     ghost use Rattle.bridge_auction.specs.Auction.{AuctionValue};
     ghost use Rattle.bridge_auction.specs.Legal.{IsLegal};
 

@@ -167,6 +167,7 @@ fn write_zeros<F: BlockFile>(file: &mut F) -> Result<(), Refused>
 }
 
 impl<F: BlockFile> SectorDisk for FileDisk<F> {
+    ghost use Rattle.sector_disk.specs.Disk.{Disk};
     ghost use Rattle.sector_disk.specs.File.{disk_in};
 
     ghost disk = { disk_in F.blocks };

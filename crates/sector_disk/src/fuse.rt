@@ -81,6 +81,7 @@ fn spend_pass(passes_left: &mut Option<u64>, fail: Fail) -> bool
 }
 
 impl<D: SectorDisk> SectorDisk for Fuse<D> {
+    ghost use Rattle.sector_disk.specs.Disk.{Disk};
 
     ghost disk = { fuse_disk D.disk };
 

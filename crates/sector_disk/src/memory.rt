@@ -68,6 +68,7 @@ impl MemoryDisk {
 
 impl SectorDisk for MemoryDisk {
     ghost use Rattle.std.specs.Prelude.{ℕ, OnOk, OnErr, IsOk};
+    ghost use Rattle.sector_disk.specs.Disk.{Disk};
     ghost use Rattle.sector_disk.specs.Calls.{Called, Reads, Writes, Syncs};
     ghost use Rattle.sector_disk.specs.Held.{after, settled};
     ghost use Rattle.sector_disk.specs.Memory.{held, memory_disk, IsHeld};

@@ -45,6 +45,7 @@ fn sector_at(offset: u64, count: u32) -> Option<u32>
 }
 
 impl<D: SectorDisk> BlockFile for SectorFile<D> {
+    ghost use Rattle.sector_disk.specs.Blocks.{Blocks};
     ghost use Rattle.sector_disk.specs.SectorFile.{sector_file};
 
     ghost blocks = { sector_file D.disk };

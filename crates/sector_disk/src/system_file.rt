@@ -27,6 +27,7 @@ impl<F> SystemFile<F> {
 
 #[tactic(auto, using(crate::specs::SystemFile::no_system_file_is_honest))]
 impl<F: OpenFile + FileExt> BlockFile for SystemFile<F> {
+    ghost use Rattle.sector_disk.specs.Blocks.{Blocks};
     ghost use Rattle.sector_disk.specs.SystemFile.{system_blocks};
 
     ghost blocks = { system_blocks };

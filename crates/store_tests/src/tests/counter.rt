@@ -1,5 +1,5 @@
 //! The counter that the tests keep. Its bytes differ in the two formats.
-ghost use Rattle.std.specs.Prelude.{◌≡◌, ◌<◌, map};
+ghost use Rattle.std.specs.Prelude.{◌≡◌, ◌≤◌, ◌<◌, length, map};
 ghost use Rattle.std.specs.List.{list_all};
 ghost use Rattle.std.specs.Str.{bytes_eq};
 ghost use Rattle.store_tests.specs.Counter.{count_in, total_in};
@@ -90,6 +90,8 @@ fn read_counter(format: DiskFormat, parts: &[ArrayVec<u8, 480>]) -> Option<Count
 }
 
 impl Kept for Counter {
+    ghost use Rattle.std.specs.Prelude.{ℕ};
+    ghost use Rattle.session_store.specs.Keeping.{Keeping, IsLawful};
     ghost use Rattle.store_tests.specs.Counter.{counting};
     ghost use Rattle.store_tests.specs.CounterLaws.{count_lawful};
 
