@@ -12,3 +12,4 @@ pub mod Waits
 pub mod FirstLine
 pub mod Keeping
 pub mod Failing
+pub mod Limits

@@ -252,6 +252,8 @@ impl<T: LineServer, K: Seconds> Service for TablePages<T, K> {
 }
 
 impl<T: LineServer, K: Seconds> LastingService for TablePages<T, K> {
+    ghost use Rattle.table_pages.specs.Limits.{AreLimits};
+
     ghost lasts = { λ pages. not (T.failed pages.server) };
 
     ghost offences = { λ pages. pages.wrong };
@@ -261,6 +263,8 @@ impl<T: LineServer, K: Seconds> LastingService for TablePages<T, K> {
     ghost wish = { λ pages. pages.wishes.wish };
 
     ghost stays = { λ pages wish. T.stays pages.server pages.desk wish };
+
+    ghost limits = { λ config. AreLimits config };
 
     fn lasts(&self) -> bool {
         !self.server.has_failed()

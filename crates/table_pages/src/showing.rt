@@ -1,6 +1,6 @@
 //! Pages shown to browsers.
-ghost use Rattle.std.specs.Prelude.{◌≡◌};
 ghost use Rattle.web_loop.specs.Turns.{LeadsTo};
+ghost use Rattle.table_pages.specs.Limits.{AreLimits};
 ghost use Rattle.table_pages.specs.Responses.{Answering};
 ghost use Rattle.table_pages.specs.Site.{site_of};
 
@@ -26,10 +26,7 @@ const MOST_BODY_BYTES: usize = 65_535;
 /// The limits of a connection: a head of 8,192 bytes, a body of 65,535, and one request after another, so that none is read
 /// before the answer to the last is sent.
 pub fn limits() -> Config
-    ensures head { result.limits.max_head_len ≡ 8192 }
-    ensures body { result.max_body_len ≡ 65535 }
-    ensures pending { result.max_pending ≡ 0 }
-    ensures others { (result.read_size ≡ 8192) × (result.limits.max_extensions_len ≡ 16384) × (result.limits.max_trailers_len ≡ 16384) }
+    ensures { AreLimits result }
 {
     Config {
         limits: Limits {

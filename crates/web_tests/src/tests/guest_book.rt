@@ -40,6 +40,8 @@ impl LastingService for GuestBook {
 
     ghost stays = { λ book wanted. ⊤ };
 
+    ghost limits = { λ config. ⊤ };
+
     fn lasts(&self) -> bool {
         true
     }
