@@ -1,2 +1,3 @@
 pub mod TurnLemmas
 pub mod Leading
+pub mod Limits

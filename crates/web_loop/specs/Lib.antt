@@ -1,3 +1,4 @@
 pub mod Turns
 pub mod Offenders
 pub mod Waiting
+pub mod Connected

@@ -1,12 +1,18 @@
 -- What connections carry, and what becomes of the service that answers them.
-use Rattle.std.specs.Prelude.{◌≡◌, ℕ, zero, suc, List, ◌++◌, Option, None, Some}
+use Rattle.std.specs.Prelude.{◌≡◌, ◌⊎◌, ℕ, zero, suc, List, ◌++◌, Bool, true, Option, None, Some}
 use Rattle.std.specs.Io.KnownBytes.{Appends, Consumes}
 use Rattle.http.specs.declared.request.Request.{Request}
 use Rattle.http_server.specs.declared.response.Response.{Response}
-use Rattle.http_server.specs.Connection.{history}
+use Rattle.http_server.specs.Connection.{config_of, history}
 use Rattle.http_server.specs.Exchange.{Call, Calls, Chain}
-use Rattle.http_server.specs.History.{History}
+use Rattle.http_server.specs.History.{History, IsDone}
+use Rattle.std.specs.declared.io.ErrorKind.{ErrorKind}
+use Rattle.std.specs.declared.io.ErrorKind.TheVariants.{WouldBlock, Interrupted}
 use Rattle.web_loop.specs.declared.client.Client.{Client}
+use Rattle.web_loop.specs.declared.turn.Step.{Step}
+use Rattle.web_loop.specs.declared.turn.Step.TheVariants.{Interrupted as Broken, Blocked, Closed}
+use Rattle.web_loop.specs.declared.turn.Turn.{Turn}
+use Rattle.web_loop.specs.declared.turn.Turn.TheVariants.{Waits, Closes}
 
 -- what the reader gave is what the connection received
 abbrev pub Receives : History → History → Option (List ℕ) → Option (List ℕ) → Type 0
@@ -22,18 +28,40 @@ Sends old new writer grown =
 abbrev pub LeadsTo : {S : Type 0} → (S → Request (List ℕ) → Response → S → Type 0) → S → S → Type 0
 LeadsTo answers old new = (calls : List Call) × Chain answers old calls new
 
+-- a client that is done closes, unless its turn changed nothing
+abbrev pub ClosesDone : {T : Type 0} → Turn → Client T → Client T → Type 0
+ClosesDone turn client after = IsDone (history after.connection) → (turn ≡ Closes) ⊎ (after.connection ≡ client.connection)
+
 module _ {S T : Type 0} (answers : S → Request (List ℕ) → Response → S → Type 0) (remaining : T → Option (List ℕ)) where
   -- A client took a turn: the service was called as often as its connection was, which received what the client sent.
   pub record TakesTurn (client after : Client T) (old new : S) : Type 0 where
     pub calls : Calls answers old new (history client.connection).calls (history after.connection).calls
     pub read : Receives (history client.connection) (history after.connection) (remaining client.reader) (remaining after.reader)
+    pub config : config_of after.connection ≡ config_of client.connection
+    pub address : after.address ≡ client.address
 
   -- the turn of a client, if there is one
   abbrev pub TurnsIf : Option (Client T) → S → S → Type 0
   TurnsIf None old new = new ≡ old
   TurnsIf (Some client) old new = (after : Client T) × TakesTurn client after old new
 
+  -- the client that stood under a key, if one did, took a turn that ended so, and stands there still
+  abbrev pub StandsAfter : Turn → Option (Client T) → Option (Client T) → S → S → Type 0
+  StandsAfter turn None found old new = found ≡ None
+  StandsAfter turn (Some client) found old new = (after : Client T) × (found ≡ Some after) × TakesTurn client after old new × ClosesDone turn client after
+
   -- the turns of the clients under the first so many keys, one after another
   abbrev pub TurnsOf : (ℕ → Option (Client T)) → ℕ → S → S → Type 0
   TurnsOf clients zero old new = new ≡ old
   TurnsOf clients (suc count) old new = (mid : S) × TurnsOf clients count old mid × TurnsIf (clients count) mid new
+
+-- what a step did that failed so: it blocked, was interrupted, or closes
+abbrev pub step_of : ErrorKind → Step
+step_of WouldBlock = Blocked
+step_of Interrupted = Broken
+step_of _ = Closed
+
+-- whether a client did something in its turn
+abbrev pub has_moved : Turn → Bool
+has_moved (Waits moved) = moved
+has_moved _ = true

@@ -1,11 +1,12 @@
 -- Answers that are put off.
-use Rattle.std.specs.Prelude.{◌≡◌, ◌⊎◌, ◌-◌, ℕ, zero, suc, nat_le, Bool, true, false, List, Option, None, Some}
+use Rattle.std.specs.Prelude.{◌≡◌, ◌⊎◌, ◌-◌, ◌<◌, ℕ, zero, suc, nat_le, Bool, true, false, List, Option, None, Some}
+use Rattle.std.specs.Time.{instant_nanos}
 use Rattle.std.specs.declared.time.Instant.{Instant}
 use Rattle.web_loop.specs.declared.client.Client.{Client}
 use Rattle.web_loop.specs.declared.client.Held.{Held}
 use Rattle.web_loop.specs.declared.offenders.Offenders.{Offenders}
 use Rattle.web_loop.specs.declared.turn.Step.{Step}
-use Rattle.web_loop.specs.declared.turn.Step.TheVariants.{Moved, Blocked, Held as HeldStep, Closed}
+use Rattle.web_loop.specs.declared.turn.Step.TheVariants.{Moved, Interrupted, Blocked, Held as HeldStep, Closed}
 use Rattle.web_loop.specs.declared.turn.Turn.{Turn}
 use Rattle.web_loop.specs.declared.turn.Turn.TheVariants.{Waits, GoesOn, Holds, Closes}
 use Rattle.web_loop.specs.Offenders.{address_number, millis, waits, AreNoted}
@@ -41,6 +42,10 @@ pub record IsFree {S T : Type 0} (stays : S → List ℕ → Type 0) (looks : Bo
   pub asks : waits (address_number client.address) (millis offenders.begun now) offenders.known.items ≡ false
   pub free : ¬ (IsOnHold stays looks now service client.held)
 
+-- a client has not been silent for 20 seconds
+abbrev pub IsHeard : {T : Type 0} → Instant → Client T → Type 0
+IsHeard now client = instant_nanos now - instant_nanos client.heard < 20000000000
+
 -- what an address asks waits now
 abbrev pub IsSlowed : {T : Type 0} → Client T → Instant → Offenders → Type 0
 IsSlowed client now offenders = waits (address_number client.address) (millis offenders.begun now) offenders.known.items ≡ true
@@ -66,6 +71,7 @@ module _ {S T : Type 0} (offences : S → ℕ) (now : Instant) where
 -- A step behind a request that waits is held or closes: at any other, as many such requests were answered as before.
 abbrev pub StepHolds : Step → ℕ → ℕ → Type 0
 StepHolds Moved old new = new ≡ old
+StepHolds Interrupted old new = new ≡ old
 StepHolds Blocked old new = new ≡ old
 StepHolds HeldStep old new = Unit {0}
 StepHolds Closed old new = Unit {0}

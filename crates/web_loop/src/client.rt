@@ -1,9 +1,9 @@
 //! One client of the server.
-ghost use Rattle.std.specs.Prelude.{◌≡◌, ◌<◌, true, false, None, IsNone, length};
+ghost use Rattle.std.specs.Prelude.{◌≡◌, ◌⊎◌, ◌<◌, true, false, None, IsNone, length};
 ghost use Rattle.std.specs.Bool.{Decides};
 ghost use Rattle.http_server.specs.Connection.{history};
-ghost use Rattle.web_loop.specs.Turns.{LeadsTo, Sends, TakesTurn};
-ghost use Rattle.web_loop.specs.Waiting.{is_late, HoldsAnew, IsFree, IsOnHold, IsPutOff, StaysPutOff, NotesTurn};
+ghost use Rattle.web_loop.specs.Turns.{ClosesDone, LeadsTo, Sends, TakesTurn};
+ghost use Rattle.web_loop.specs.Waiting.{is_late, HoldsAnew, IsFree, IsHeard, IsOnHold, IsPutOff, IsSlowed, StaysPutOff, NotesTurn};
 
 use crate::offenders::{Offenders, millis};
 use crate::service::LastingService;
@@ -135,13 +135,10 @@ impl<T: Read + Write + Drop> Client<T> {
         ensures writer { self.new.writer ≡ self.old.writer }
         ensures address { self.new.address ≡ self.old.address }
     {
-        self.held = match service.wish() {
-            Some(wish) => match wish.clone() {
-                Ok(wish) => Some(Held { wish, since: now }),
-                Err(_) => None,
-            },
-            None => None,
-        };
+        self.held = service
+            .wish()
+            .and_then(|wish| wish.clone().ok())
+            .map(|wish| Held { wish, since: now });
     }
 
     /// Takes its turn, unless its address waits or its answer is put off. It closes once it has been silent for 20 seconds, but not
@@ -149,7 +146,7 @@ impl<T: Read + Write + Drop> Client<T> {
     ///
     /// The answer to a request that waits is put off until 15 seconds have passed, or what it wishes for has come and it `looks`,
     /// which it need not where nothing has changed since it did. While it is put off nothing is read, answered or sent.
-    pub fn take_turn<S: LastingService>(
+    pub(crate) fn take_turn<S: LastingService>(
         &mut self,
         service: &mut S,
         offenders: &mut Offenders,
@@ -163,7 +160,8 @@ impl<T: Read + Write + Drop> Client<T> {
         ensures anew { IsFree S.stays looks now self.old offenders.old service.old → S.waits service.new ≡ S.waits service.old → self.new.held ≡ None }
         ensures written { Sends (history self.old.connection) (history self.new.connection) (T.contents self.old.writer) (T.contents self.new.writer) }
         ensures noted { NotesTurn S.offences now self.old service.old service.new offenders.old offenders.new }
-        ensures address { self.new.address ≡ self.old.address }
+        ensures done { ClosesDone result self.old self.new }
+        ensures silent { result ≡ Turn.Waits false → IsSlowed self.old now offenders.old ⊎ IsHeard now self.new }
     {
         if offenders.waits(self.address, now) {
             return Turn::Waits { moved: false };
@@ -194,7 +192,7 @@ impl<T: Read + Write + Drop> Client<T> {
         ensures held { HoldsAnew (S.wish service.new) now self.new.held }
         ensures anew { S.waits service.new ≡ S.waits service.old → self.new.held ≡ None }
         ensures written { Sends (history self.old.connection) (history self.new.connection) (T.contents self.old.writer) (T.contents self.new.writer) }
-        ensures address { self.new.address ≡ self.old.address }
+        ensures done { ClosesDone result self.old self.new }
     {
         let before = service.waits();
         self.held = None;

@@ -1,9 +1,12 @@
 //! The clients of the server.
-ghost use Rattle.std.specs.Prelude.{◌≡◌, ◌≢◌, ◌-◌, ◌||◌, ℕ, nat_le, if◌then◌else◌};
+ghost use Rattle.std.specs.Prelude.{◌≡◌, ◌≢◌, ◌-◌, ◌||◌, ℕ, nat_le, [], None, OnOk, OnErr, if◌then◌else◌};
 ghost use Rattle.std.specs.Time.{instant_nanos};
 ghost use Rattle.slab.specs.Slab.{get};
-ghost use Rattle.web_loop.specs.Turns.{LeadsTo, TurnsIf, TurnsOf};
+ghost use Rattle.web_loop.specs.Connected.{released, Admits, AreLimited, KeepsLimits, OnlyCloses};
+ghost use Rattle.web_loop.specs.Turns.{LeadsTo, StandsAfter, TurnsIf, TurnsOf};
 ghost use Rattle.web_loop.specs.Waiting.{NotesIf, NotesOf};
+
+mod room;
 
 use crate::client::Client;
 use crate::offenders::Offenders;
@@ -20,9 +23,6 @@ use std::time::{Duration, Instant};
 
 /// The most clients at once.
 pub const MOST_CLIENTS: usize = 128;
-
-/// The most from one address while another is connected too.
-const HALF: usize = MOST_CLIENTS / 2;
 
 /// The clients that are connected, at most 128, and the addresses from which offences came.
 #[derive(Drop)]
@@ -46,7 +46,12 @@ pub struct Clients<T> {
 impl<T: Read + Write + OpenStream + Drop> Clients<T> {
     /// No client, at the beginning of a server's run. The limits of each connection are those of `config`, and the names of
     /// headers, which a peer chooses, are looked up by secret keys.
-    pub fn new(alloc: Global, keys: RandomState, config: Config, begun: Instant) -> Clients<T> {
+    pub fn new(alloc: Global, keys: RandomState, config: Config, begun: Instant) -> Clients<T>
+        ensures config { result.config ≡ config }
+        ensures none { result.connected.slots ≡ [] }
+        ensures limits { AreLimited config result.connected }
+        ensures offenders { (result.offenders.known.items ≡ []) × (result.offenders.begun ≡ begun) }
+    {
         Clients {
             alloc,
             keys,
@@ -66,7 +71,12 @@ impl<T: Read + Write + OpenStream + Drop> Clients<T> {
     /// Takes a new client from an address, in place of the one that has been silent the longest where there are 128. While two
     /// addresses are connected neither has more than 64, of which the one that has been silent the longest gives way. The error
     /// is the socket's, or that memory was refused, and then it is closed.
-    pub fn admit(&mut self, stream: T, address: IpAddr, now: Instant) -> io::Result<()> {
+    pub fn admit(&mut self, stream: T, address: IpAddr, now: Instant) -> io::Result<()>
+        ensures rest { self.new ≡ record self.old { connected = self.new.connected } }
+        ensures admitted { OnOk result (Admits address self.old self.new) }
+        ensures err { OnErr result (OnlyCloses self.old self.new) }
+        ensures limits { KeepsLimits self.old self.new }
+    {
         stream.set_nonblocking(true)?;
         let _ = stream.set_nodelay(true);
         let writer = stream.try_clone()?;
@@ -78,69 +88,11 @@ impl<T: Read + Write + OpenStream + Drop> Clients<T> {
         Ok(())
     }
 
-    /// Makes room for one more client from an address.
-    fn make_room(&mut self, address: IpAddr) {
-        if let Some(other) = self.other_than(address) {
-            self.keep_at_most(HALF - 1, address);
-            self.keep_at_most(HALF, other);
-        }
-        if self.connected.len() >= MOST_CLIENTS {
-            self.drop_longest_silent(None);
-        }
-    }
-
-    /// Another address that is connected. Where there are several, each has its half at most.
-    fn other_than(&self, address: IpAddr) -> Option<IpAddr> {
-        for key in 0..self.connected.capacity() {
-            match self.connected.get(key) {
-                Some(client) if client.address() != address => return Some(client.address()),
-                _ => {}
-            }
-        }
-        None
-    }
-
-    /// Closes connections of an address, those first that have been silent the longest, until so many are left.
-    fn keep_at_most(&mut self, most: usize, address: IpAddr) {
-        let mut count: usize = 0;
-        for key in 0..self.connected.capacity() {
-            match self.connected.get(key) {
-                Some(client) if client.address() == address => count = count.saturating_add(1),
-                _ => {}
-            }
-        }
-        for _ in most..count {
-            self.drop_longest_silent(Some(address));
-        }
-    }
-
-    /// Closes the connection that has been silent the longest, of one address or of all.
-    fn drop_longest_silent(&mut self, from: Option<IpAddr>) {
-        let mut longest: Option<(usize, Instant)> = None;
-        for key in 0..self.connected.capacity() {
-            match self.heard_at(key, from) {
-                Some(heard) if is_before(heard, longest) => longest = Some((key, heard)),
-                _ => {}
-            }
-        }
-        if let Some((key, _)) = longest {
-            self.close(key);
-        }
-    }
-
-    /// When the client under a key was heard, if there is one, of one address or of all.
-    fn heard_at(&self, key: usize, from: Option<IpAddr>) -> Option<Instant> {
-        let client = self.connected.get(key)?;
-        match from {
-            Some(address) if address != client.address() => None,
-            _ => Some(client.heard()),
-        }
-    }
-
     /// Closes the connection of the client under a key, if there is one.
     fn close(&mut self, key: usize)
+        ensures gone { get self.new.connected key ≡ None }
         ensures others { (other : ℕ) → other ≢ key → get self.new.connected other ≡ get self.old.connected other }
-        ensures offenders { self.new.offenders ≡ self.old.offenders }
+        ensures rest { self.new ≡ record self.old { connected = self.new.connected } }
     {
         self.connected.try_remove(key);
     }
@@ -164,14 +116,23 @@ impl<T: Read + Write + OpenStream + Drop> Clients<T> {
     }
 
     /// Has the answers sent that are put off.
-    pub fn release(&mut self) {
+    pub fn release(&mut self)
+        ensures released { (key : ℕ) → get self.new.connected key ≡ released (get self.old.connected key) }
+        ensures rest { self.new ≡ record self.old { connected = self.new.connected } }
+        ensures limits { KeepsLimits self.old self.new }
+    {
         for key in 0..self.connected.capacity() {
             self.release_at(key);
         }
     }
 
     /// Has the answer sent that is put off for the client under a key, if there is one.
-    fn release_at(&mut self, key: usize) {
+    fn release_at(&mut self, key: usize)
+        ensures released { get self.new.connected key ≡ released (get self.old.connected key) }
+        ensures others { (other : ℕ) → other ≢ key → get self.new.connected other ≡ get self.old.connected other }
+        ensures rest { self.new ≡ record self.old { connected = self.new.connected } }
+        ensures limits { KeepsLimits self.old self.new }
+    {
         if let Some(client) = self.connected.get_mut(key) {
             client.release();
         }
@@ -196,6 +157,7 @@ impl<T: Read + Write + OpenStream + Drop> Clients<T> {
         ensures turns { TurnsOf S.answers T.remaining (get self.old.connected) self.old.connected.capacity service.old service.new }
         ensures noted { NotesOf S.offences now (get self.old.connected) self.old.connected.capacity service.old service.new self.old.offenders self.new.offenders }
         ensures moved { self.new.moved ≡ result }
+        ensures limits { KeepsLimits self.old self.new }
     {
         let looks = self.looks(now);
         let moved = self.take_each_turn(service, looks, now);
@@ -213,50 +175,45 @@ impl<T: Read + Write + OpenStream + Drop> Clients<T> {
         ensures leads { LeadsTo S.answers service.old service.new }
         ensures turns { TurnsOf S.answers T.remaining (get self.old.connected) self.old.connected.capacity service.old service.new }
         ensures noted { NotesOf S.offences now (get self.old.connected) self.old.connected.capacity service.old service.new self.old.offenders self.new.offenders }
+        ensures limits { KeepsLimits self.old self.new }
     {
         let mut moved = false;
         for key in 0..self.connected.capacity() {
-            moved |= self.take_turn_at(key, service, looks || moved, now);
+            moved |= self
+                .take_turn_at(key, service, looks || moved, now)
+                .has_moved();
         }
         moved
     }
 
-    /// The turn of the client under a key, if there is one, and whether it read, wrote or closed. It goes where it closes.
+    /// The turn of the client under a key, if there is one. It goes where it closes, and else stands there still.
     fn take_turn_at<S: LastingService>(
         &mut self,
         key: usize,
         service: &mut S,
         looks: bool,
         now: Instant,
-    ) -> bool
+    ) -> Turn
         ensures leads { LeadsTo S.answers service.old service.new }
         ensures turn { TurnsIf S.answers T.remaining (get self.old.connected key) service.old service.new }
         ensures noted { NotesIf S.offences now (get self.old.connected key) service.old service.new self.old.offenders self.new.offenders }
+        ensures closes { result ≡ Turn.Closes → get self.new.connected key ≡ None }
+        ensures stands { result ≢ Turn.Closes → StandsAfter S.answers T.remaining result (get self.old.connected key) (get self.new.connected key) service.old service.new }
         ensures others { (other : ℕ) → other ≢ key → get self.new.connected other ≡ get self.old.connected other }
+        ensures limits { KeepsLimits self.old self.new }
     {
-        match turn_at(
+        let turn = turn_at(
             &mut self.connected,
             &mut self.offenders,
             key,
             service,
             looks,
             now,
-        ) {
-            Turn::Waits { moved } => moved,
-            Turn::GoesOn | Turn::Holds => true,
-            Turn::Closes => {
-                self.close(key);
-                true
-            }
+        );
+        if turn == Turn::Closes {
+            self.close(key);
         }
-    }
-}
-
-/// Whether a time is before that of the other, if there is one.
-fn is_before(heard: Instant, longest: Option<(usize, Instant)>) -> bool {
-    match longest {
-        Some((_, other)) => heard < other,
-        None => true,
+        turn
     }
 }
 
@@ -271,6 +228,7 @@ fn turn_at<T: Read + Write + Drop, S: LastingService>(
 ) -> Turn
     ensures leads { LeadsTo S.answers service.old service.new }
     ensures turn { TurnsIf S.answers T.remaining (get connected.old key) service.old service.new }
+    ensures stands { StandsAfter S.answers T.remaining result (get connected.old key) (get connected.new key) service.old service.new }
     ensures noted { NotesIf S.offences now (get connected.old key) service.old service.new offenders.old offenders.new }
     ensures others { (other : ℕ) → other ≢ key → get connected.new other ≡ get connected.old other }
 {

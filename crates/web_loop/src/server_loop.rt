@@ -1,5 +1,6 @@
 //! The server's loop.
-ghost use Rattle.std.specs.Prelude.{◌≡◌};
+ghost use Rattle.std.specs.Prelude.{◌≡◌, true};
+ghost use Rattle.web_loop.specs.Connected.{KeepsLimits};
 ghost use Rattle.web_loop.specs.Turns.{LeadsTo};
 
 use crate::clients::{Clients, MOST_CLIENTS};
@@ -25,6 +26,7 @@ fn admit_waiting<N: Net>(
 )
 where
     N::Stream: AsRawFd,
+    ensures { KeepsLimits clients.old clients.new }
 {
     for _ in 0..MOST_CLIENTS {
         match listener.accept() {
@@ -48,7 +50,9 @@ fn take_round<N: Net + Clock, S: LastingService>(
 ) -> io::Result<()>
 where
     N::Stream: AsRawFd,
-    ensures { LeadsTo S.answers service.old service.new }
+    requires lasts { S.lasts service.old ≡ true }
+    ensures leads { LeadsTo S.answers service.old service.new }
+    ensures limits { KeepsLimits clients.old clients.new }
 {
     let now = Instant::now(rt)?;
     admit_waiting::<N>(listener, readiness, clients, now);
@@ -65,7 +69,8 @@ fn send_pending<N: Net + Clock, S: LastingService>(
     clients: &mut Clients<N::Stream>,
     service: &mut S,
 ) -> io::Result<()>
-    ensures { LeadsTo S.answers service.old service.new }
+    ensures leads { LeadsTo S.answers service.old service.new }
+    ensures limits { KeepsLimits clients.old clients.new }
 {
     let begun = Instant::now(rt)?;
     for _ in 0..LAST_ROUNDS {
@@ -95,7 +100,8 @@ fn take_rounds_for<N: Net + Clock, S: LastingService>(
 ) -> io::Result<()>
 where
     N::Stream: AsRawFd,
-    ensures { LeadsTo S.answers service.old service.new }
+    ensures leads { LeadsTo S.answers service.old service.new }
+    ensures limits { KeepsLimits clients.old clients.new }
 {
     for _ in 0..u64::MAX {
         if !service.lasts() || begun.elapsed(rt)? >= length {
@@ -107,7 +113,8 @@ where
 }
 
 /// Serves the connections of a listener that does not block for so many minutes, or as long as the service lasts, and then
-/// sends what is pending. Where nobody asks for anything it sleeps. The error is that the clock cannot be read.
+/// sends what is pending. The clients have the limits that the service asks for. Where nobody asks for anything it sleeps. The
+/// error is that the clock cannot be read.
 pub fn serve_minutes<N: Net + Clock, S: LastingService>(
     rt: &N,
     listener: &N::Listener,
@@ -118,7 +125,9 @@ pub fn serve_minutes<N: Net + Clock, S: LastingService>(
 where
     N::Listener: AsRawFd,
     N::Stream: AsRawFd,
-    ensures { LeadsTo S.answers service.old service.new }
+    requires limits { S.limits clients.old.config }
+    ensures leads { LeadsTo S.answers service.old service.new }
+    ensures limits { KeepsLimits clients.old clients.new }
 {
     let begun = Instant::now(rt)?;
     let length = Duration::from_secs(60 * u64::from(minutes));

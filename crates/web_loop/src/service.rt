@@ -1,6 +1,7 @@
 //! A service that may come to its end, counts the offences that it was asked with, and may be asked to wait.
 ghost use Rattle.std.specs.Prelude.{◌≡◌, ℕ, Bool, true, false, List, Option};
 ghost use Rattle.std.specs.Option.{option_copied};
+ghost use Rattle.http_server.specs.declared.state.Config.{Config as ConfigType};
 
 use bytes::Bytes;
 use http_server::Service;
@@ -25,6 +26,9 @@ pub trait LastingService: Service {
 
     // what was wished for has not come yet: what was told is told still
     ghost stays: { Self → List ℕ → Type 0 };
+
+    // connections that have these limits may be answered by it
+    ghost limits: { ConfigType → Type 0 };
 
     /// Whether it still serves. Once it does not, no more requests are read, and what is pending is sent.
     fn lasts(&self) -> bool

@@ -1,8 +1,9 @@
 //! One turn of one connection.
-ghost use Rattle.std.specs.Prelude.{◌≡◌, if◌then◌else◌};
-ghost use Rattle.http_server.specs.Connection.{history};
+ghost use Rattle.std.specs.Prelude.{◌≡◌, ◌≢◌, ◌⊎◌, ◌<◌, length, if◌then◌else◌};
+ghost use Rattle.http_server.specs.Connection.{config_of, history};
 ghost use Rattle.http_server.specs.Exchange.{Calls};
-ghost use Rattle.web_loop.specs.Turns.{Receives, Sends};
+ghost use Rattle.http_server.specs.History.{IsDone};
+ghost use Rattle.web_loop.specs.Turns.{has_moved, step_of, Receives, Sends};
 ghost use Rattle.web_loop.specs.Waiting.{StepHolds, TurnHolds};
 
 use crate::service::LastingService;
@@ -28,11 +29,25 @@ pub enum Turn {
     Closes,
 }
 
+impl Turn {
+    /// Whether the connection read, wrote or closed, or has more to do.
+    pub fn has_moved(self) -> bool
+        ensures { result ≡ has_moved self }
+    {
+        match self {
+            Turn::Waits { moved } => moved,
+            _ => true,
+        }
+    }
+}
+
 /// What one step of a connection did.
 #[derive(Clone, Copy)]
 enum Step {
-    /// It read or wrote, or was interrupted.
+    /// It read or wrote.
     Moved,
+    /// It was interrupted.
+    Interrupted,
     /// The peer gives or takes nothing now.
     Blocked,
     /// It answered a request that waits.
@@ -43,10 +58,12 @@ enum Step {
 
 impl Step {
     /// What a step did that failed so.
-    fn failed(kind: ErrorKind) -> Step {
+    fn failed(kind: ErrorKind) -> Step
+        ensures { result ≡ step_of kind }
+    {
         match kind {
             ErrorKind::WouldBlock => Step::Blocked,
-            ErrorKind::Interrupted => Step::Moved,
+            ErrorKind::Interrupted => Step::Interrupted,
             _ => Step::Closed,
         }
     }
@@ -54,9 +71,13 @@ impl Step {
 
 /// Writes once of what is pending.
 fn write_once<W: Write>(connection: &mut Connection, writer: &mut W) -> Step
+    requires pending { 0 < length (history connection.old).pending }
     ensures written { Sends (history connection.old) (history connection.new) (W.contents writer.old) (W.contents writer.new) }
     ensures received { (history connection.new).received ≡ (history connection.old).received }
     ensures calls { (history connection.new).calls ≡ (history connection.old).calls }
+    ensures moved { result ≡ Step.Moved → length (history connection.new).pending < length (history connection.old).pending }
+    ensures still { result ≢ Step.Moved → history connection.new ≡ history connection.old }
+    ensures config { config_of connection.new ≡ config_of connection.old }
 {
     match connection.write_to(writer) {
         Ok(0) => Step::Closed,
@@ -70,6 +91,8 @@ fn read_once<R: Read>(connection: &mut Connection, reader: &mut R) -> Step
     ensures read { Receives (history connection.old) (history connection.new) (R.remaining reader.old) (R.remaining reader.new) }
     ensures sent { (history connection.new).sent ≡ (history connection.old).sent }
     ensures calls { (history connection.new).calls ≡ (history connection.old).calls }
+    ensures still { result ≢ Step.Moved → history connection.new ≡ history connection.old }
+    ensures config { config_of connection.new ≡ config_of connection.old }
 {
     match connection.read_from(reader) {
         Ok(_) => Step::Moved,
@@ -89,6 +112,8 @@ fn take_step<S: LastingService, R: Read, W: Write>(
     ensures written { Sends (history connection.old) (history connection.new) (W.contents writer.old) (W.contents writer.new) }
     ensures calls { Calls S.answers service.old service.new (history connection.old).calls (history connection.new).calls }
     ensures holds { StepHolds result (S.waits service.old) (S.waits service.new) }
+    ensures done { IsDone (history connection.new) → (result ≡ Step.Moved) ⊎ (result ≡ Step.Closed) }
+    ensures config { config_of connection.new ≡ config_of connection.old }
 {
     let before = service.waits();
     connection.advance(service);
@@ -129,11 +154,13 @@ pub fn take_turn<S: LastingService, R: Read, W: Write>(
     ensures written { Sends (history connection.old) (history connection.new) (W.contents writer.old) (W.contents writer.new) }
     ensures calls { Calls S.answers service.old service.new (history connection.old).calls (history connection.new).calls }
     ensures holds { TurnHolds result (S.waits service.old) (S.waits service.new) }
+    ensures done { IsDone (history connection.new) → result ≡ Turn.Closes }
+    ensures config { config_of connection.new ≡ config_of connection.old }
 {
     let before = service.offences();
     for steps in 0..MOST_STEPS {
         match take_step(connection, service, reader, writer) {
-            Step::Moved => {}
+            Step::Moved | Step::Interrupted => {}
             Step::Blocked => return Turn::Waits { moved: steps > 0 },
             Step::Held => return Turn::Holds,
             Step::Closed => return Turn::Closes,
@@ -142,5 +169,5 @@ pub fn take_turn<S: LastingService, R: Read, W: Write>(
             return cut_short(connection.is_done());
         }
     }
-    Turn::GoesOn
+    cut_short(connection.is_done())
 }

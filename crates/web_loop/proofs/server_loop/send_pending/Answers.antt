@@ -1,10 +1,15 @@
+use Rattle.web_loop.proofs.Limits.{KeepsLimits-then}
 use Rattle.web_loop.proofs.Leading.{LeadsTo-then}
 use Rattle.web_loop.proofs.server_loop.send_pending.Goals as goal
 
 pub returns-then-is_late : goal.returns-then-is_late
-returns-then-is_late g c =
-    LeadsTo-then g.S.Service.answers _ _ _ c.loop.invariant c.take_turns-moved.ensures.leads
+returns-then-is_late g c = record {
+  leads = LeadsTo-then g.S.Service.answers _ _ _ c.loop.invariant.0 c.take_turns-moved.ensures.leads;
+  limits = KeepsLimits-then _ _ _ c.loop.invariant.1 (KeepsLimits-then _ _ _ c.release.ensures.limits c.take_turns-moved.ensures.limits);
+}
 
 pub loop-preserved : goal.loop-preserved
-loop-preserved g c =
-    LeadsTo-then g.S.Service.answers _ _ _ c.loop.invariant c.take_turns-moved.ensures.leads
+loop-preserved g c = (
+  LeadsTo-then g.S.Service.answers _ _ _ c.loop.invariant.0 c.take_turns-moved.ensures.leads,
+  KeepsLimits-then _ _ _ c.loop.invariant.1 (KeepsLimits-then _ _ _ c.release.ensures.limits c.take_turns-moved.ensures.limits),
+)

@@ -1,5 +1,9 @@
+use Rattle.web_loop.proofs.Limits.{KeepsLimits-then}
 use Rattle.web_loop.proofs.Leading.{LeadsTo-then}
 use Rattle.web_loop.proofs.server_loop.serve_minutes.Goals as goal
 
 pub returns : goal.returns
-returns g c = LeadsTo-then g.S.Service.answers _ _ _ c.take_rounds_for.ensures c.send_pending.ensures
+returns g c = record {
+  leads = LeadsTo-then g.S.Service.answers _ _ _ c.take_rounds_for.ensures.leads c.send_pending.ensures.leads;
+  limits = KeepsLimits-then _ _ _ c.take_rounds_for.ensures.limits c.send_pending.ensures.limits;
+}

@@ -1,9 +1,11 @@
-use Rattle.std.proofs.Common.{◌≡◌, ℕ, Bool, true, false, if◌then◌else◌, sym, subst, ◌∙◌}
+use Rattle.std.proofs.Common.{◌≡◌, ◌⊎◌, inl, inr, arith, ℕ, Bool, true, false, if◌then◌else◌, refl, ap, sym, subst, ◌∙◌}
 use Rattle.http_server.specs.Connection.{history}
 use Rattle.http_server.proofs.StreamLemmas.{Calls-then}
+use Rattle.web_loop.specs.declared.turn.Step.{Step}
+use Rattle.web_loop.specs.declared.turn.Step.TheVariants.{Moved, Interrupted}
 use Rattle.web_loop.specs.declared.turn.Turn.{Turn}
 use Rattle.web_loop.specs.declared.turn.Turn.TheVariants.{GoesOn, Closes}
-use Rattle.web_loop.specs.Waiting.{TurnHolds}
+use Rattle.web_loop.specs.Waiting.{StepHolds, TurnHolds}
 use Rattle.web_loop.proofs.TurnLemmas.{Receives-then, Sends-then}
 use Rattle.web_loop.proofs.turn.take_turn.Goals as goal
 
@@ -11,6 +13,11 @@ use Rattle.web_loop.proofs.turn.take_turn.Goals as goal
 holds-cut_short : (done : Bool) (turn : Turn) (old new : ℕ) → turn ≡ (if done then Closes else GoesOn) → new ≡ old → TurnHolds turn old new
 holds-cut_short true turn old new is same = subst (λ (t : Turn). TurnHolds t old new) (sym is) tt
 holds-cut_short false turn old new is same = subst (λ (t : Turn). TurnHolds t old new) (sym is) same
+
+-- a step at which the turn goes on is not held
+steps_on : (step : Step) (old new : ℕ) → (step ≡ Moved) ⊎ (step ≡ Interrupted) → StepHolds step old new → new ≡ old
+steps_on step old new (inl is) holds = subst (λ (s : Step). StepHolds s old new) is holds
+steps_on step old new (inr is) holds = subst (λ (s : Step). StepHolds s old new) is holds
 
 pub returns-in-Blocked : goal.returns-in-Blocked
 returns-in-Blocked g c =
@@ -22,6 +29,8 @@ returns-in-Blocked g c =
       written = Sends-then old here new (g.W.Write.contents c.args.writer.now) (g.W.Write.contents c.loop-steps.writer) (g.W.Write.contents c.take_step.new.writer) c.loop-steps.invariant.1 c.in-Blocked.ensures.written;
       calls = Calls-then g.S.Service.answers _ _ _ _ _ _ c.loop-steps.invariant.2 c.in-Blocked.ensures.calls;
       holds = c.in-Blocked.ensures.holds ∙ c.loop-steps.invariant.3;
+      done = λ d. absurd (grind (arith, c.in-Blocked.ensures.done d));
+      config = c.in-Blocked.ensures.config ∙ c.loop-steps.invariant.4;
     }
 
 pub returns-in-Held : goal.returns-in-Held
@@ -34,6 +43,8 @@ returns-in-Held g c =
       written = Sends-then old here new (g.W.Write.contents c.args.writer.now) (g.W.Write.contents c.loop-steps.writer) (g.W.Write.contents c.take_step.new.writer) c.loop-steps.invariant.1 c.in-Held.ensures.written;
       calls = Calls-then g.S.Service.answers _ _ _ _ _ _ c.loop-steps.invariant.2 c.in-Held.ensures.calls;
       holds = tt;
+      done = λ d. absurd (grind (arith, c.in-Held.ensures.done d));
+      config = c.in-Held.ensures.config ∙ c.loop-steps.invariant.4;
     }
 
 pub returns-in-Closed : goal.returns-in-Closed
@@ -46,6 +57,8 @@ returns-in-Closed g c =
       written = Sends-then old here new (g.W.Write.contents c.args.writer.now) (g.W.Write.contents c.loop-steps.writer) (g.W.Write.contents c.take_step.new.writer) c.loop-steps.invariant.1 c.in-Closed.ensures.written;
       calls = Calls-then g.S.Service.answers _ _ _ _ _ _ c.loop-steps.invariant.2 c.in-Closed.ensures.calls;
       holds = tt;
+      done = λ _. refl;
+      config = c.in-Closed.ensures.config ∙ c.loop-steps.invariant.4;
     }
 
 pub returns-then-not-wants_write : goal.returns-then-not-wants_write
@@ -54,10 +67,12 @@ returns-then-not-wants_write g c =
     let here = history c.loop-steps.connection in
     let new = history c.take_step.new.connection in
     record {
-      read = Receives-then old here new (g.R.Read.remaining c.args.reader.now) (g.R.Read.remaining c.loop-steps.reader) (g.R.Read.remaining c.take_step.new.reader) c.loop-steps.invariant.0 c.in-Moved.ensures.read;
-      written = Sends-then old here new (g.W.Write.contents c.args.writer.now) (g.W.Write.contents c.loop-steps.writer) (g.W.Write.contents c.take_step.new.writer) c.loop-steps.invariant.1 c.in-Moved.ensures.written;
-      calls = Calls-then g.S.Service.answers _ _ _ _ _ _ c.loop-steps.invariant.2 c.in-Moved.ensures.calls;
-      holds = holds-cut_short c.is_done.result c.cut_short.result _ _ c.cut_short.ensures (c.in-Moved.ensures.holds ∙ c.loop-steps.invariant.3);
+      read = Receives-then old here new (g.R.Read.remaining c.args.reader.now) (g.R.Read.remaining c.loop-steps.reader) (g.R.Read.remaining c.take_step.new.reader) c.loop-steps.invariant.0 c.take_step.ensures.read;
+      written = Sends-then old here new (g.W.Write.contents c.args.writer.now) (g.W.Write.contents c.loop-steps.writer) (g.W.Write.contents c.take_step.new.writer) c.loop-steps.invariant.1 c.take_step.ensures.written;
+      calls = Calls-then g.S.Service.answers _ _ _ _ _ _ c.loop-steps.invariant.2 c.take_step.ensures.calls;
+      holds = holds-cut_short c.is_done.result c.cut_short.result _ _ c.cut_short.ensures (steps_on c.take_step.result _ _ c.in-Moved.is c.take_step.ensures.holds ∙ c.loop-steps.invariant.3);
+      done = λ d. c.cut_short.ensures ∙ ap (λ (done : Bool). if done then Closes else GoesOn) (c.is_done.ensures.1 d);
+      config = c.take_step.ensures.config ∙ c.loop-steps.invariant.4;
     }
 
 pub returns : goal.returns
@@ -65,7 +80,9 @@ returns g c = record {
   read = c.loop-steps.invariant.0;
   written = c.loop-steps.invariant.1;
   calls = c.loop-steps.invariant.2;
-  holds = c.loop-steps.invariant.3;
+  holds = holds-cut_short c.is_done-2.result c.cut_short-2.result _ _ c.cut_short-2.ensures c.loop-steps.invariant.3;
+  done = λ d. c.cut_short-2.ensures ∙ ap (λ (done : Bool). if done then Closes else GoesOn) (c.is_done-2.ensures.1 d);
+  config = c.loop-steps.invariant.4;
 }
 
 pub loop-steps-preserved : goal.loop-steps-preserved
@@ -73,8 +90,9 @@ loop-steps-preserved g c =
     let old = history c.args.connection.now in
     let here = history c.loop-steps.connection in
     let new = history c.take_step.new.connection in (
-      Receives-then old here new (g.R.Read.remaining c.args.reader.now) (g.R.Read.remaining c.loop-steps.reader) (g.R.Read.remaining c.take_step.new.reader) c.loop-steps.invariant.0 c.in-Moved.ensures.read,
-      Sends-then old here new (g.W.Write.contents c.args.writer.now) (g.W.Write.contents c.loop-steps.writer) (g.W.Write.contents c.take_step.new.writer) c.loop-steps.invariant.1 c.in-Moved.ensures.written,
-      Calls-then g.S.Service.answers _ _ _ _ _ _ c.loop-steps.invariant.2 c.in-Moved.ensures.calls,
-      c.in-Moved.ensures.holds ∙ c.loop-steps.invariant.3,
+      Receives-then old here new (g.R.Read.remaining c.args.reader.now) (g.R.Read.remaining c.loop-steps.reader) (g.R.Read.remaining c.take_step.new.reader) c.loop-steps.invariant.0 c.take_step.ensures.read,
+      Sends-then old here new (g.W.Write.contents c.args.writer.now) (g.W.Write.contents c.loop-steps.writer) (g.W.Write.contents c.take_step.new.writer) c.loop-steps.invariant.1 c.take_step.ensures.written,
+      Calls-then g.S.Service.answers _ _ _ _ _ _ c.loop-steps.invariant.2 c.take_step.ensures.calls,
+      steps_on c.take_step.result _ _ c.in-Moved.is c.take_step.ensures.holds ∙ c.loop-steps.invariant.3,
+      c.take_step.ensures.config ∙ c.loop-steps.invariant.4,
     )

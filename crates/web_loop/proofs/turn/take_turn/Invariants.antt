@@ -1,5 +1,5 @@
 use Rattle.std.proofs.Common.{◌≡◌}
-use Rattle.http_server.specs.Connection.{history}
+use Rattle.http_server.specs.Connection.{config_of, history}
 use Rattle.http_server.specs.Exchange.{Calls}
 use Rattle.web_loop.specs.Turns.{Receives, Sends}
 use Rattle.web_loop.proofs.turn.take_turn.Given as goal
@@ -10,3 +10,4 @@ invariant-loop-steps g l =
     × Sends (history l.fn.connection) (history l.connection) (g.W.Write.contents l.fn.writer) (g.W.Write.contents l.writer)
     × Calls g.S.Service.answers l.fn.service l.service (history l.fn.connection).calls (history l.connection).calls
     × (g.S.LastingService.waits l.service ≡ g.S.LastingService.waits l.fn.service)
+    × (config_of l.connection ≡ config_of l.fn.connection)

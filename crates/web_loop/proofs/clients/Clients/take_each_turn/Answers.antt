@@ -2,6 +2,7 @@ use Rattle.std.proofs.Common.{◌∙◌, subst, arith}
 use Rattle.slab.specs.Slab.{get}
 use Rattle.web_loop.specs.Turns.{TurnsIf}
 use Rattle.web_loop.specs.Waiting.{NotesIf}
+use Rattle.web_loop.proofs.Limits.{KeepsLimits-then}
 use Rattle.web_loop.proofs.Leading.{LeadsTo-then, TurnsOf-more, NotesOf-more}
 use Rattle.web_loop.proofs.clients.Clients.take_each_turn.Goals as goal
 
@@ -18,4 +19,5 @@ loop-key-preserved g c =
           (subst (λ found. NotesIf g.S.LastingService.offences c.args.now found c.loop-key.service c.take_turn_at.new.service c.loop-key.self.offenders c.take_turn_at.new.self.offenders)
           here turn.noted),
       λ other later. turn.others other (λ same. omega (arith, same, later)) ∙ before.3 other (omega (arith, later)),
+      KeepsLimits-then _ _ _ before.4 turn.limits,
     )
