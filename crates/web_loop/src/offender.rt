@@ -1,6 +1,5 @@
 //! The offences of one address.
-ghost use Rattle.std.specs.Prelude.{◌≡◌, [], ◌+◌, ◌<◌, ◌≤◌, min, length, if◌then◌else◌};
-ghost use Rattle.arrayvec.specs.ArrayVec.{array_vec_len};
+ghost use Rattle.std.specs.Prelude.{◌≡◌, [], ◌+◌, ◌<◌, min, if◌then◌else◌};
 ghost use Rattle.web_loop.specs.Offenders.{with_time, with_times, is_slowed, wait_for};
 
 use arrayvec::ArrayVec;
