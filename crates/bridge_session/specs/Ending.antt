@@ -11,7 +11,7 @@ use Rattle.session_rules.specs.declared.action.PlayId.{PlayId}
 use Rattle.session_rules.specs.declared.refused.Refused.{Refused}
 use Rattle.session_rules.specs.declared.refused.Refused.TheVariants.{NoSuchPlay, NotYet, NoContract, NotAnEnding}
 use Rattle.bridge_config.specs.Then.{◌>>=◌}
-use Rattle.session_rules.specs.Answer.{require}
+use Rattle.session_rules.specs.Answer.{◌>>◌, require}
 use Rattle.session_rules.specs.Record.{play_of}
 use Rattle.session_rules.specs.State.{SessionValue, director_answer, hands_on, record_of}
 use Rattle.session_rules.specs.See.{cards_left}

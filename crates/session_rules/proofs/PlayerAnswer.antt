@@ -7,7 +7,7 @@ use Rattle.session_rules.specs.declared.refused.Refused.{Refused}
 use Rattle.session_rules.specs.declared.refused.Refused.TheVariants.{NotCurrent, NotDealt}
 use Rattle.session_rules.specs.declared.seating.Seating.{Seating}
 use Rattle.bridge_config.specs.Then.{◌>>=◌}
-use Rattle.session_rules.specs.Answer.{Answer, require}
+use Rattle.session_rules.specs.Answer.{Answer, ◌>>◌, require}
 use Rattle.session_rules.specs.Deed.{deed_answer}
 use Rattle.session_rules.specs.PlayerStep.{Seen, answer_among}
 use Rattle.session_rules.specs.Record.{PlainRecord, bidding_of, play_of}

@@ -7,7 +7,7 @@ use Rattle.session_rules.specs.declared.refused.Refused.{Refused}
 use Rattle.session_rules.specs.declared.refused.Refused.TheVariants.{NotCurrent, NotDealt}
 use Rattle.session_rules.specs.declared.seating.Seating.{Seating}
 use Rattle.bridge_config.specs.Then.{◌>>=◌}
-use Rattle.session_rules.specs.Answer.{Answer, require}
+use Rattle.session_rules.specs.Answer.{Answer, ◌>>◌, require}
 use Rattle.session_rules.specs.Record.{PlainRecord, bidding_of, play_of}
 use Rattle.session_rules.specs.Deed.{deed_answer, with_deed}
 use Rattle.session_rules.specs.State.{SessionValue, deal_on, row_at, changed_at, current_index, seating_of, is_of_set}
