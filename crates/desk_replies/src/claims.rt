@@ -87,7 +87,10 @@ fn seen_of(session: &Session, view: &View<'_>) -> SeenClaim
 pub(crate) fn is_asked(session: &Session, key: Key) -> Result<bool, Refused>
     ensures { result ≡ is_asked session.now key.0 }
 {
-    Ok(session.stage(key)?.answer_due)
+    match session.stage(key) {
+        Ok(stage) => Ok(stage.answer_due),
+        Err(refused) => Err(refused),
+    }
 }
 
 /// Where the player of the key sits and the claims of the play that he is shown there, where he is shown one.

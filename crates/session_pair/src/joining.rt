@@ -194,7 +194,7 @@ fn fault_of(disk_first: bool, fault: PairFault) -> JoinFault
 }
 
 /// The disks of a pair that was not opened, of which the disk was the first, or the copy.
-fn unjoined<D: SectorDisk + Drop>(disk_first: bool, pair: UnopenedPair<D, D>) -> Unjoined<D>
+fn given_back<D: SectorDisk + Drop>(disk_first: bool, pair: UnopenedPair<D, D>) -> Unjoined<D>
     ensures fault { result.fault ≡ pair_fault disk_first pair.fault }
     ensures disks { AreInOrder disk_first pair.first pair.second result.disk result.copy }
 {
@@ -246,9 +246,9 @@ fn open_both<D: SectorDisk + Drop>(
                 second: second.into_disk(),
                 fault: PairFault::Second(StoreFault::Disk),
             };
-            Err(unjoined(judged.disk_first, unopened))
+            Err(given_back(judged.disk_first, unopened))
         }
-        Err(unopened) => Err(unjoined(judged.disk_first, unopened)),
+        Err(unopened) => Err(given_back(judged.disk_first, unopened)),
     }
 }
 
