@@ -139,7 +139,7 @@ IsNothingShown Why output ended = (fault : RunFault) × Why fault × (ended ≡ 
 abbrev pub HasNoMemory : RunFault → Type 0
 HasNoMemory fault = fault ≡ Store NoMemory
 
--- no session was opened on two disks, which came back, and that is the fault
+-- no session was opened on two disks, and that is the fault
 abbrev pub IsNotOpened : ClubDisk → ClubDisk → RunFault → Type 0
 IsNotOpened d e fault =
     (cause : JoinFault) × (d' : ClubDisk) × (e' : ClubDisk) × IsNotJoined file_disk d e d' e' cause × (fault ≡ Joining cause)

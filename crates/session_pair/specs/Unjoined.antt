@@ -59,8 +59,8 @@ module _ {D : Type 0} (disk : Disk D) where
       ⊎ ((ours : Held) × (theirs : Held) × IsHeld d d' ours × IsHeld e e' theirs
       × IsUnjudged ours.state ours.epoch theirs.state theirs.epoch fault))
 
-  -- a pair of disks was not opened, and both came back; or it was, one was lost in that, which counts as a fault of the second, and
-  -- both came back from their stores
+  -- a pair of disks was not opened, and both came back; or it was, the second was lost in that, which is the fault, and both came
+  -- back from their stores
   abbrev pub IsNotOpened : D → D → D → D → PairFault → Type 0
   IsNotOpened d e d' e' fault = IsPairRefused session_keeping disk disk d e d' e' fault
       ⊎ ((v : StoreValue D SessionValue Action) × (w : StoreValue D SessionValue Action) × (fault ≡ Second DiskFailed)

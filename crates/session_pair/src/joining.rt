@@ -18,7 +18,7 @@ use session_store::{
 use std::alloc::{AllocError, Global};
 use std::cmp::Ordering;
 
-/// Why a session was not opened on two disks. Nothing was written where the disks differ or one gave no session.
+/// Why a session was not opened on two disks. Nothing was written where how they stand was not found.
 #[derive(Clone, Copy, Debug, PartialEq, Eq)]
 pub enum JoinFault {
     /// The disk gives no session, a call of it failed, or memory was refused.
@@ -253,8 +253,8 @@ fn open_both<D: SectorDisk + Drop>(
 }
 
 /// Opens the session that two disks hold. Both are read whole before anything is written. The one of the greater epoch is taken
-/// first, and of one epoch that with more records; the other is brought to its state. At an error both come back, and they were only
-/// read where the fault is that one gave no session or that they differ.
+/// first, and of one epoch that with more records; the other is brought to its state. At an error both come back, only read where
+/// how they stand was not found.
 pub fn join_disks<D: SectorDisk + Drop>(
     alloc: Global,
     disk: D,

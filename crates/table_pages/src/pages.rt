@@ -17,7 +17,7 @@ use desk_replies::Desk;
 use http::Request;
 use http_server::{Response, Service};
 use std::alloc::{AllocError, Global};
-use table_server::{LineSet, ReplyText};
+use table_server::LineSet;
 use web_loop::LastingService;
 use web_requests::{Kind, Refusal, Route, put_refusal, put_text, put_unavailable, route_of};
 
@@ -252,7 +252,7 @@ impl<T: LineServer, K: Seconds> Service for TablePages<T, K> {
 }
 
 impl<T: LineServer, K: Seconds> LastingService for TablePages<T, K> {
-    ghost use Rattle.table_pages.specs.Limits.{AreLimits};
+    ghost use Rattle.table_pages.specs.Limits.{ArePageLimits};
 
     ghost lasts = { λ pages. not (T.failed pages.server) };
 
@@ -264,7 +264,7 @@ impl<T: LineServer, K: Seconds> LastingService for TablePages<T, K> {
 
     ghost stays = { λ pages wish. T.stays pages.server pages.desk wish };
 
-    ghost limits = { λ config. AreLimits config };
+    ghost limits = { λ config. ArePageLimits config };
 
     fn lasts(&self) -> bool {
         !self.server.has_failed()

@@ -1,6 +1,6 @@
 //! Pages shown to browsers.
 ghost use Rattle.web_loop.specs.Turns.{LeadsTo};
-ghost use Rattle.table_pages.specs.Limits.{AreLimits};
+ghost use Rattle.table_pages.specs.Limits.{ArePageLimits};
 ghost use Rattle.table_pages.specs.Responses.{Answering};
 ghost use Rattle.table_pages.specs.Site.{site_of};
 
@@ -26,7 +26,7 @@ const MOST_BODY_BYTES: usize = 65_535;
 /// The limits of a connection: a head of 8,192 bytes, a body of 65,535, and one request after another, so that none is read
 /// before the answer to the last is sent.
 pub fn limits() -> Config
-    ensures { AreLimits result }
+    ensures { ArePageLimits result }
 {
     Config {
         limits: Limits {

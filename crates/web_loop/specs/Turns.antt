@@ -1,5 +1,5 @@
 -- What connections carry, and what becomes of the service that answers them.
-use Rattle.std.specs.Prelude.{◌≡◌, ◌⊎◌, ℕ, zero, suc, List, ◌++◌, Bool, true, Option, None, Some}
+use Rattle.std.specs.Prelude.{◌≡◌, ◌⊎◌, ℕ, zero, suc, List, ◌++◌, Bool, true, false, Option, None, Some}
 use Rattle.std.specs.Io.KnownBytes.{Appends, Consumes}
 use Rattle.http.specs.declared.request.Request.{Request}
 use Rattle.http_server.specs.declared.response.Response.{Response}
@@ -10,7 +10,7 @@ use Rattle.std.specs.declared.io.ErrorKind.{ErrorKind}
 use Rattle.std.specs.declared.io.ErrorKind.TheVariants.{WouldBlock, Interrupted}
 use Rattle.web_loop.specs.declared.client.Client.{Client}
 use Rattle.web_loop.specs.declared.turn.Step.{Step}
-use Rattle.web_loop.specs.declared.turn.Step.TheVariants.{Interrupted as Broken, Blocked, Closed}
+use Rattle.web_loop.specs.declared.turn.Step.TheVariants.{Interrupted as InterruptedStep, Blocked, Closed}
 use Rattle.web_loop.specs.declared.turn.Turn.{Turn}
 use Rattle.web_loop.specs.declared.turn.Turn.TheVariants.{Waits, Closes}
 
@@ -33,7 +33,8 @@ abbrev pub ClosesDone : {T : Type 0} → Turn → Client T → Client T → Type
 ClosesDone turn client after = IsDone (history after.connection) → (turn ≡ Closes) ⊎ (after.connection ≡ client.connection)
 
 module _ {S T : Type 0} (answers : S → Request (List ℕ) → Response → S → Type 0) (remaining : T → Option (List ℕ)) where
-  -- A client took a turn: the service was called as often as its connection was, which received what the client sent.
+  -- A client took a turn: the service was called as often as its connection was, which received what the client sent. It keeps
+  -- its limits and its address.
   pub record TakesTurn (client after : Client T) (old new : S) : Type 0 where
     pub calls : Calls answers old new (history client.connection).calls (history after.connection).calls
     pub read : Receives (history client.connection) (history after.connection) (remaining client.reader) (remaining after.reader)
@@ -45,9 +46,9 @@ module _ {S T : Type 0} (answers : S → Request (List ℕ) → Response → S �
   TurnsIf None old new = new ≡ old
   TurnsIf (Some client) old new = (after : Client T) × TakesTurn client after old new
 
-  -- the client that stood under a key, if one did, took a turn that ended so, and stands there still
+  -- the client that stood under a key took a turn that ended so, and stands there still; or none did, and none moved
   abbrev pub StandsAfter : Turn → Option (Client T) → Option (Client T) → S → S → Type 0
-  StandsAfter turn None found old new = found ≡ None
+  StandsAfter turn None found old new = (found ≡ None) × (turn ≡ Waits false)
   StandsAfter turn (Some client) found old new = (after : Client T) × (found ≡ Some after) × TakesTurn client after old new × ClosesDone turn client after
 
   -- the turns of the clients under the first so many keys, one after another
@@ -58,7 +59,7 @@ module _ {S T : Type 0} (answers : S → Request (List ℕ) → Response → S �
 -- what a step did that failed so: it blocked, was interrupted, or closes
 abbrev pub step_of : ErrorKind → Step
 step_of WouldBlock = Blocked
-step_of Interrupted = Broken
+step_of Interrupted = InterruptedStep
 step_of _ = Closed
 
 -- whether a client did something in its turn

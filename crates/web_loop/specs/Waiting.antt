@@ -37,6 +37,10 @@ abbrev pub HoldsAnew : Option (List ℕ) → Instant → Option Held → Type 0
 HoldsAnew wish now None = Unit {0}
 HoldsAnew wish now (Some held) = (wish ≡ Some held.wish) × (held.since ≡ now)
 
+-- the address of a client waits now
+abbrev pub IsSlowed : {T : Type 0} → Client T → Instant → Offenders → Type 0
+IsSlowed client now offenders = waits (address_number client.address) (millis offenders.begun now) offenders.known.items ≡ true
+
 -- A client goes on: its address does not wait, and no answer is to be put off still.
 pub record IsFree {S T : Type 0} (stays : S → List ℕ → Type 0) (looks : Bool) (now : Instant) (client : Client T) (offenders : Offenders) (service : S) : Type 0 where
   pub asks : waits (address_number client.address) (millis offenders.begun now) offenders.known.items ≡ false
@@ -45,10 +49,6 @@ pub record IsFree {S T : Type 0} (stays : S → List ℕ → Type 0) (looks : Bo
 -- a client has not been silent for 20 seconds
 abbrev pub IsHeard : {T : Type 0} → Instant → Client T → Type 0
 IsHeard now client = instant_nanos now - instant_nanos client.heard < 20000000000
-
--- what an address asks waits now
-abbrev pub IsSlowed : {T : Type 0} → Client T → Instant → Offenders → Type 0
-IsSlowed client now offenders = waits (address_number client.address) (millis offenders.begun now) offenders.known.items ≡ true
 
 module _ {S T : Type 0} (offences : S → ℕ) (now : Instant) where
   -- A client took a turn: where its address waits it is asked nothing, and the offences that it was answered with are noted.

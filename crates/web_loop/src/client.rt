@@ -109,6 +109,13 @@ impl<T: Read + Write + Drop> Client<T> {
         self.heard
     }
 
+    /// Whether it has not been silent for 20 seconds.
+    fn is_heard(&self, now: Instant) -> bool
+        ensures { Decides result (IsHeard now self.now) }
+    {
+        now.duration_since(self.heard) < Duration::from_secs(PATIENCE)
+    }
+
     /// Has the answer sent that is put off, if one is.
     pub fn release(&mut self)
         ensures { self.new ≡ record self.old { held = None } }
@@ -134,6 +141,7 @@ impl<T: Read + Write + Drop> Client<T> {
         ensures reader { self.new.reader ≡ self.old.reader }
         ensures writer { self.new.writer ≡ self.old.writer }
         ensures address { self.new.address ≡ self.old.address }
+        ensures heard { self.new.heard ≡ self.old.heard }
     {
         self.held = service
             .wish()
@@ -162,6 +170,8 @@ impl<T: Read + Write + Drop> Client<T> {
         ensures noted { NotesTurn S.offences now self.old service.old service.new offenders.old offenders.new }
         ensures done { ClosesDone result self.old self.new }
         ensures silent { result ≡ Turn.Waits false → IsSlowed self.old now offenders.old ⊎ IsHeard now self.new }
+        ensures heard { result ≡ Turn.Waits false → IsFree S.stays looks now self.old offenders.old service.old
+            → S.offences service.new ≡ S.offences service.old → self.new.heard ≡ self.old.heard }
     {
         if offenders.waits(self.address, now) {
             return Turn::Waits { moved: false };
@@ -178,11 +188,7 @@ impl<T: Read + Write + Drop> Client<T> {
             offenders.note(self.address, wrong, now);
             return turn;
         }
-        if now.duration_since(self.heard) < Duration::from_secs(PATIENCE) {
-            turn
-        } else {
-            Turn::Closes
-        }
+        if self.is_heard(now) { turn } else { Turn::Closes }
     }
 
     /// Takes its turn, and puts the answer off that is to be.
@@ -193,6 +199,7 @@ impl<T: Read + Write + Drop> Client<T> {
         ensures anew { S.waits service.new ≡ S.waits service.old → self.new.held ≡ None }
         ensures written { Sends (history self.old.connection) (history self.new.connection) (T.contents self.old.writer) (T.contents self.new.writer) }
         ensures done { ClosesDone result self.old self.new }
+        ensures heard { self.new.heard ≡ self.old.heard }
     {
         let before = service.waits();
         self.held = None;

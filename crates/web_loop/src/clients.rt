@@ -1,8 +1,9 @@
 //! The clients of the server.
-ghost use Rattle.std.specs.Prelude.{◌≡◌, ◌≢◌, ◌-◌, ◌||◌, ℕ, nat_le, [], None, OnOk, OnErr, if◌then◌else◌};
+ghost use Rattle.std.specs.Prelude.{◌≡◌, ◌≢◌, ◌-◌, ◌<◌, ◌||◌, ℕ, nat_le, true, false, [], None, OnOk, OnErr, if◌then◌else◌};
+ghost use Rattle.std.specs.Bool.{Decides};
 ghost use Rattle.std.specs.Time.{instant_nanos};
 ghost use Rattle.slab.specs.Slab.{get};
-ghost use Rattle.web_loop.specs.Connected.{released, Admits, AreLimited, KeepsLimits, OnlyCloses};
+ghost use Rattle.web_loop.specs.Connected.{released, Admits, AreLimited, IsPendingAt, KeepsLimits, OnlyCloses};
 ghost use Rattle.web_loop.specs.Turns.{LeadsTo, StandsAfter, TurnsIf, TurnsOf};
 ghost use Rattle.web_loop.specs.Waiting.{NotesIf, NotesOf};
 
@@ -73,7 +74,7 @@ impl<T: Read + Write + OpenStream + Drop> Clients<T> {
     /// is the socket's, or that memory was refused, and then it is closed.
     pub fn admit(&mut self, stream: T, address: IpAddr, now: Instant) -> io::Result<()>
         ensures rest { self.new ≡ record self.old { connected = self.new.connected } }
-        ensures admitted { OnOk result (Admits address self.old self.new) }
+        ensures admitted { OnOk result (Admits address now self.old self.new) }
         ensures err { OnErr result (OnlyCloses self.old self.new) }
         ensures limits { KeepsLimits self.old self.new }
     {
@@ -98,7 +99,10 @@ impl<T: Read + Write + OpenStream + Drop> Clients<T> {
     }
 
     /// Whether an answer to any of them is not sent yet.
-    pub fn has_pending(&self) -> bool {
+    pub fn has_pending(&self) -> bool
+        ensures some { result ≡ true → (key : ℕ) × IsPendingAt (get self.now.connected key) }
+        ensures none { result ≡ false → (key : ℕ) → key < self.now.connected.capacity → ¬ (IsPendingAt (get self.now.connected key)) }
+    {
         for key in 0..self.connected.capacity() {
             if self.is_pending_at(key) {
                 return true;
@@ -108,7 +112,9 @@ impl<T: Read + Write + OpenStream + Drop> Clients<T> {
     }
 
     /// Whether an answer to the client under a key, if there is one, is not sent yet.
-    fn is_pending_at(&self, key: usize) -> bool {
+    fn is_pending_at(&self, key: usize) -> bool
+        ensures { Decides result (IsPendingAt (get self.now.connected key)) }
+    {
         match self.connected.get(key) {
             Some(client) => client.is_pending(),
             None => false,

@@ -1,6 +1,6 @@
 //! The server's loop.
 ghost use Rattle.std.specs.Prelude.{◌≡◌, true};
-ghost use Rattle.web_loop.specs.Connected.{KeepsLimits};
+ghost use Rattle.web_loop.specs.Connected.{AreLimited, KeepsLimits};
 ghost use Rattle.web_loop.specs.Turns.{LeadsTo};
 
 use crate::clients::{Clients, MOST_CLIENTS};
@@ -126,8 +126,10 @@ where
     N::Listener: AsRawFd,
     N::Stream: AsRawFd,
     requires limits { S.limits clients.old.config }
+    requires limited { AreLimited clients.old.config clients.old.connected }
     ensures leads { LeadsTo S.answers service.old service.new }
-    ensures limits { KeepsLimits clients.old clients.new }
+    ensures config { clients.new.config ≡ clients.old.config }
+    ensures limited { AreLimited clients.new.config clients.new.connected }
 {
     let begun = Instant::now(rt)?;
     let length = Duration::from_secs(60 * u64::from(minutes));

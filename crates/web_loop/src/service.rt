@@ -30,7 +30,7 @@ pub trait LastingService: Service {
     // connections that have these limits may be answered by it
     ghost limits: { ConfigType → Type 0 };
 
-    /// Whether it still serves. Once it does not, no more requests are read, and what is pending is sent.
+    /// Whether it still serves. Once it does not, nobody is let in, and clients have turns until what is pending is sent.
     fn lasts(&self) -> bool
         ensures { result ≡ lasts self.now };
 

@@ -1,5 +1,5 @@
 //! One turn of one connection.
-ghost use Rattle.std.specs.Prelude.{◌≡◌, ◌≢◌, ◌⊎◌, ◌<◌, length, if◌then◌else◌};
+ghost use Rattle.std.specs.Prelude.{◌≡◌, ◌≢◌, ◌⊎◌, ◌<◌, true, length, if◌then◌else◌};
 ghost use Rattle.http_server.specs.Connection.{config_of, history};
 ghost use Rattle.http_server.specs.Exchange.{Calls};
 ghost use Rattle.http_server.specs.History.{IsDone};
@@ -18,7 +18,7 @@ const MOST_STEPS: usize = 64;
 pub enum Turn {
     /// The peer gives no more for now, or takes no more.
     Waits {
-        /// Whether bytes were read or written before.
+        /// Whether it read, wrote or was interrupted before.
         moved: bool,
     },
     /// It took as many steps as a turn may, or answered an offence, and has more to do.
@@ -91,6 +91,8 @@ fn read_once<R: Read>(connection: &mut Connection, reader: &mut R) -> Step
     ensures read { Receives (history connection.old) (history connection.new) (R.remaining reader.old) (R.remaining reader.new) }
     ensures sent { (history connection.new).sent ≡ (history connection.old).sent }
     ensures calls { (history connection.new).calls ≡ (history connection.old).calls }
+    ensures moved { result ≡ Step.Moved → (length (history connection.old).received < length (history connection.new).received)
+        ⊎ ((history connection.new).ended ≡ true) }
     ensures still { result ≢ Step.Moved → history connection.new ≡ history connection.old }
     ensures config { config_of connection.new ≡ config_of connection.old }
 {

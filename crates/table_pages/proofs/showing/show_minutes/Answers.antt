@@ -9,4 +9,7 @@ returns g c =
     (λ old new request response x. (x.0, same_site new.texts old.texts new.names old.names _ _ x.1 x.2 (ap (λ people. people.items) x.7))) c.args.pages.now c.serve_minutes.new.service c.serve_minutes.ensures.leads
 
 pub serve_minutes-requires : goal.serve_minutes-requires
-serve_minutes-requires g c = rw c.new-clients.ensures.config c.limits.ensures
+serve_minutes-requires g c = record {
+  limits = rw c.new-clients.ensures.config c.limits.ensures;
+  limited = rw c.new-clients.ensures.config c.new-clients.ensures.limits;
+}

@@ -12,6 +12,7 @@ returns-clause-admitted g c = record {
   limits = ap config_of c.new.ensures.connection ∙ c.new-connection.ensures.config ∙ ap (λ clients. clients.config) c.make_room.ensures.rest;
   anew = ap history c.new.ensures.connection ∙ c.new-connection.ensures.history;
   comes_from = c.new.ensures.address;
+  heard = c.new.ensures.heard;
   unheld = c.new.ensures.held;
   others = λ other differs.
       let kept : get c.insert_reserved.new.self other ≡ get c.make_room.new.self.connected other = c.insert_reserved.ensures.updates.others other differs ∙ ap (λ slab. get slab other) c.in_ok-reserve.ensures.rest_kept in
@@ -23,4 +24,4 @@ returns-clause-admitted g c = record {
 
 pub returns-clause-limits : goal.returns-clause-limits
 returns-clause-limits g c =
-    KeepsLimits-admits c.args.address _ _ (ap (λ clients. clients.config) c.make_room.ensures.rest) (returns-clause-admitted g c)
+    KeepsLimits-admits c.args.address c.args.now _ _ (ap (λ clients. clients.config) c.make_room.ensures.rest) (returns-clause-admitted g c)
