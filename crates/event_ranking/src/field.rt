@@ -92,7 +92,9 @@ pub fn field_of(sections: &[Session]) -> Result<(), SectionsRefused>
     ensures refused { IfErr result (IsFirstRefusal sections.now) }
 {
     for index in 0..sections.len() {
-        judge(sections, index)?;
+        if let Err(refused) = judge(sections, index) {
+            return Err(refused);
+        }
     }
     Ok(())
 }

@@ -188,7 +188,11 @@ impl<T: Read + Write + Drop> Client<T> {
             offenders.note(self.address, wrong, now);
             return turn;
         }
-        if self.is_heard(now) { turn } else { Turn::Closes }
+        if self.is_heard(now) {
+            turn
+        } else {
+            Turn::Closes
+        }
     }
 
     /// Takes its turn, and puts the answer off that is to be.
