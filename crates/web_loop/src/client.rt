@@ -109,11 +109,16 @@ impl<T: Read + Write + Drop> Client<T> {
         self.heard
     }
 
-    /// Whether it has not been silent for 20 seconds.
-    fn is_heard(&self, now: Instant) -> bool
-        ensures { Decides result (IsHeard now self.now) }
+    /// How its turn ends in which it did nothing: it closes once it has been silent for 20 seconds.
+    fn after_rest(&self, turn: Turn, now: Instant) -> Turn
+        ensures heard { IsHeard now self.now → result ≡ turn }
+        ensures silent { ¬ (IsHeard now self.now) → result ≡ Turn.Closes }
     {
-        now.duration_since(self.heard) < Duration::from_secs(PATIENCE)
+        if now.duration_since(self.heard) < Duration::from_secs(PATIENCE) {
+            turn
+        } else {
+            Turn::Closes
+        }
     }
 
     /// Has the answer sent that is put off, if one is.
@@ -188,11 +193,7 @@ impl<T: Read + Write + Drop> Client<T> {
             offenders.note(self.address, wrong, now);
             return turn;
         }
-        if self.is_heard(now) {
-            turn
-        } else {
-            Turn::Closes
-        }
+        self.after_rest(turn, now)
     }
 
     /// Takes its turn, and puts the answer off that is to be.
