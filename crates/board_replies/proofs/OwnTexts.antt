@@ -1,5 +1,5 @@
 -- The lines of plays, one after another.
-use Rattle.std.proofs.Common.{◌≡◌, ℕ, ◌+◌, ◌<◌, ◌≤◌, Bool, true, false, cond, List, [], ◌∷◌, ◌++◌, length, get_or, take, Option, Some, None, Result, Ok, Err, OnOk, refl, sym, ap, ◌∙◌, append_assoc, append-nil}
+use Rattle.std.proofs.Common.{◌≡◌, ℕ, ◌+◌, ◌<◌, ◌≤◌, Bool, true, false, List, [], ◌∷◌, ◌++◌, length, get_or, take, Option, Some, None, Result, Ok, Err, OnOk, refl, sym, ap, ◌∙◌, append_assoc, append-nil}
 use Rattle.std.specs.Prelude.{flat_map, codes, sum_by, is_some}
 use Rattle.std.specs.List.{filter_map, cons_option}
 use Rattle.std.specs.Option.{option_to_list}
@@ -7,17 +7,14 @@ use Rattle.std.proofs.lemmas.List.{take_more}
 use Rattle.std.proofs.lemmas.List.Sums.{count_by-le-length}
 use Rattle.std.proofs.lemmas.List.Concat.{flat_map-append}
 use Rattle.std.proofs.lemmas.List.Elements.{filter_map-append}
-use Rattle.bridge_cards.specs.declared.seat.Side.{Side}
 use Rattle.bridge_movement.specs.declared.row.Row.{Row}
 use Rattle.session_rules.specs.State.{SessionValue}
 use Rattle.line_text.specs.Lines.{lines_text}
 use Rattle.line_replies.specs.ReplyTexts.{listed_text}
 use Rattle.bridge_results.specs.PlayCells.{line_score}
 use Rattle.bridge_results.specs.declared.traveller.BoardLine.{BoardLine}
-use Rattle.board_replies.specs.Beside.{score_count, beside}
-use Rattle.board_replies.specs.KnownPlay.{KnownPlay}
-use Rattle.board_replies.specs.OwnPlays.{OwnPlay, is_over_in, own_play_by, own_plays_in, own_plays}
-use Rattle.board_replies.specs.PlayLines.{play_lines}
+use Rattle.board_replies.specs.Beside.{score_count}
+use Rattle.board_replies.specs.OwnPlays.{OwnPlay, own_plays_in, own_plays}
 use Rattle.board_replies.specs.Rulings.{ruled_in, ruled_lines}
 use Rattle.board_replies.specs.Told.{own_lines, own_text, others_line}
 
@@ -37,27 +34,6 @@ pub own_append : (s : SessionValue) (is_open : Bool) (xs ys : List OwnPlay) → 
 own_append s is_open xs ys =
     ap lines_text (flat_map-append (own_lines s is_open) xs ys)
     ∙ lines_append (flat_map (own_lines s is_open) xs) (flat_map (own_lines s is_open) ys)
-
--- the lines of a play that is over, and those of other tables
-pub own_known : (s : SessionValue) (is_open : Bool) (row : Row) (side : Side) (index : ℕ) (known : KnownPlay) (a b c : List ℕ) → is_over_in s.round row known ≡ true
-    → b ≡ a ++ lines_text (play_lines s.configuration row index (Some side) known) → c ≡ b ++ lines_text (beside s is_open side row known.board)
-    → c ≡ a ++ own_text s is_open (option_to_list (own_play_by s.round row side index known))
-own_known s is_open row side index known a b c over first second =
-    let own : OwnPlay = record { row = row; side = side; index = index; known = known } in
-    let is : own_play_by s.round row side index known ≡ Some own = ap (λ has. cond has (Some own) None) over in
-    let play = play_lines s.configuration row index (Some side) known in
-    let others = beside s is_open side row known.board in
-    let whole : own_text s is_open (own ∷ []) ≡ lines_text play ++ lines_text others = ap lines_text (append-nil (play ++ others)) ∙ lines_append play others in
-    second ∙ ap (λ text. text ++ lines_text others) first ∙ append_assoc a (lines_text play) (lines_text others)
-    ∙ ap (λ text. a ++ text) (sym whole)
-    ∙ ap (λ (one : Option OwnPlay). a ++ own_text s is_open (option_to_list one)) (sym is)
-
--- and of one that is not over none
-pub own_unknown : (s : SessionValue) (is_open : Bool) (row : Row) (side : Side) (index : ℕ) (known : KnownPlay) (a : List ℕ) → is_over_in s.round row known ≡ false
-    → a ≡ a ++ own_text s is_open (option_to_list (own_play_by s.round row side index known))
-own_unknown s is_open row side index known a open_still =
-    let is : own_play_by s.round row side index known ≡ None = ap (λ has. cond has (Some (record { row = row; side = side; index = index; known = known })) None) open_still in
-    sym (append-nil a) ∙ ap (λ (one : Option OwnPlay). a ++ own_text s is_open (option_to_list one)) (sym is)
 
 -- a text that is made of a list piece by piece
 module _ {X : Type 0} (text : List X → List ℕ) (append : (xs ys : List X) → text (xs ++ ys) ≡ text xs ++ text ys) (empty : text [] ≡ []) where

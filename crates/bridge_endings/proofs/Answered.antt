@@ -63,14 +63,6 @@ pub record IsAnswered (trump : Option Suit) (cards need : ℕ) (held : Seat → 
   pub upward : IsUpward (has_card counts)
 
 module _ (trump : Option Suit) (cards need : ℕ) (held : Seat → ℕ → Bool) (leader : Seat) (trick : List ℕ) (legal : ℕ) (against : Bool) where
-  -- before the first card
-  pub answered_first : (counts : ℕ) → counts ≡ 0 → IsAnswered trump cards need held leader trick legal legal counts against
-  answered_first counts none = record {
-    among = λ card has. has;
-    tried = λ card has lacks. let never : true ≡ false = sym has ∙ lacks in cc;
-    upward = upward_none counts none;
-  }
-
   module _ (out : IsDealtOut held) (part : length trick < 4) (may : (card : ℕ) → has_card legal card ≡ may_be_played (held (clockwise_from leader (length trick))) trick card) where
     -- a card was tried, and those like it go too
     pub answered_step : (rest less counts its both card : ℕ) → IsAnswered trump cards need held leader trick legal rest counts against

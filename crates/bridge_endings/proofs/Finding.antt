@@ -1,9 +1,8 @@
 -- What a table tells: of cards left that agree in those that counted, and what an answer adds to it.
-use Rattle.std.proofs.Common.{◌≡◌, ℕ, ◌*◌, ◌<◌, ◌≤◌, Bool, true, false, ◌&&◌, nat_le, count_by, List, [], ◌∷◌, Option, refl, sym, ap, ◌∙◌, arith, All, replicate, subst, length, slice_set, slice_index_or}
+use Rattle.std.proofs.Common.{◌≡◌, ℕ, ◌*◌, ◌<◌, Bool, ◌&&◌, nat_le, count_by, List, [], Option, refl, sym, ap, ◌∙◌, arith, All, replicate, subst, length, slice_set}
 use Rattle.std.proofs.lemmas.List.{length-replicate, length-set}
-use Rattle.std.proofs.lemmas.List.Elements.{All-replicate, All-set, All-get_or}
+use Rattle.std.proofs.lemmas.List.Elements.{All-replicate, All-set}
 use Rattle.std.proofs.Math.Path.{fun_ext}
-use Rattle.std.proofs.lemmas.Bool.{le-leb, lt-leb}
 use Rattle.bridge_cards.specs.declared.suit.Suit.{Suit}
 use Rattle.bridge_cards.specs.declared.seat.Seat.{Seat}
 use Rattle.bridge_cards.specs.Card.{same_suit, card_suit}
@@ -18,7 +17,7 @@ use Rattle.bridge_endings.specs.declared.entry.Entry.{Entry}
 use Rattle.bridge_endings.specs.Between.{IsBounded}
 use Rattle.bridge_endings.specs.Worth.{dealt, worth_with}
 use Rattle.bridge_endings.specs.Left.{suit_length, all_lengths, AreAsLong, HoldAlike}
-use Rattle.bridge_endings.specs.Agree.{IsDealtOut, Agree, Settles}
+use Rattle.bridge_endings.specs.Agree.{IsDealtOut, Agree}
 use Rattle.bridge_endings.specs.SearchValue.{IsAnswer, IsFound, IsEntry, IsTable, IsNothing}
 use Rattle.bridge_endings.proofs.WorthSteps.{worth_with_le}
 use Rattle.bridge_endings.proofs.Agreeing.{agree_then}
@@ -61,17 +60,6 @@ pub found_there : (found : Found) → IsFound found → (hands : List ℕ) (trum
 found_there found is hands trump tricks leader same_trump same_leader same_tricks agree other out same =
     rw (← same_trump, ← same_leader, ← same_tricks) (is.bounded other out (agree_then (has_card found.counts) (dealt found.hands) (dealt hands) other agree same))
 
-module _ (trump : Option Suit) (tricks need : ℕ) (counts : ℕ) (bounds : Bounds) (held : Seat → ℕ → Bool) (leader : Seat) (bounded : (other : Seat → ℕ → Bool) → IsDealtOut other → Agree (has_card counts) held other → IsBounded (worth_with trump (4 * tricks) other leader []) bounds) where
-  pub told_yes : need ≤ bounds.least → Settles trump (4 * tricks) need (has_card counts) true held leader []
-  told_yes reached other out [] same same_trick =
-      le-leb need (worth_with trump (4 * tricks) other leader []) (omega (arith, reached, (bounded other out same).least))
-  told_yes reached other out (c ∷ played) same same_trick = absurd (omega (arith, same_trick.long))
-
-  pub told_no : bounds.most < need → Settles trump (4 * tricks) need (has_card counts) false held leader []
-  told_no beyond other out [] same same_trick =
-      lt-leb need (worth_with trump (4 * tricks) other leader []) (omega (arith, beyond, (bounded other out same).most))
-  told_no beyond other out (c ∷ played) same same_trick = absurd (omega (arith, same_trick.long))
-
 -- an answer gives bounds
 pub answer_found : (hands : List ℕ) (lengths best : ℕ) → lengths ≡ all_lengths hands → (trump : Option Suit) (tricks need : ℕ) (leader : Seat) (answer : Answer) (bounds : Bounds) → IsAnswer trump (4 * tricks) need answer (dealt hands) leader []
     → ((worth : ℕ) → IsBounded worth (record { least = 0; most = tricks }) → answer.yes ≡ nat_le need worth → IsBounded worth bounds)
@@ -110,10 +98,6 @@ table_set table place entry is found = record {
   some = omega (arith, is.some, length-set table place entry);
   found = All-set IsEntry table place entry found is.found;
 }
-
--- what was found is true in the entry at a place
-pub table_at : (table : List Entry) (place : ℕ) (otherwise : Entry) → IsTable table → place < length table → IsEntry (slice_index_or table place otherwise)
-table_at table place otherwise is within = All-get_or IsEntry table place otherwise within is.found
 
 -- what was found, with another thing that is true
 pub found_set : (parts : List Found) (place : ℕ) (found : Found) → All IsFound parts → IsFound found → All IsFound (slice_set parts place found)

@@ -15,10 +15,6 @@ goes_on_again old between new first second = record {
 pub told_before : (old new : Search) (P : Option Suit → Type 0) → GoesOn old new → P new.trump → P old.trump
 told_before old new P later now = subst P later.trump now
 
--- a search that may end may end from the start
-pub may_end : {A : Type 0} (old new : Search) (told : Option A) → GoesOn old new → (IsNone told → IsSome new.limit) → IsNone told → IsSome old.limit
-may_end old new told later ended none = subst (λ limit. IsSome limit) later.limit (ended none)
-
 -- what is true of an answer, if there is one
 pub if_told : {A : Type 0} (P Q : A → Type 0) → ((answer : A) → P answer → Q answer) → (told : Option A) → IfSome told P → IfSome told Q
 if_told P Q then None is = tt

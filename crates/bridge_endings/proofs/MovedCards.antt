@@ -1,5 +1,5 @@
 -- Sets of cards that are moved, by their bits.
-use Rattle.std.proofs.Common.{◌≡◌, ℕ, zero, suc, ◌+◌, ◌-◌, ◌*◌, ◌/◌, ◌%◌, ◌^◌, ◌<◌, ◌≤◌, ◌⊎◌, inl, inr, Bool, true, false, not, ◌&&◌, ◌==◌, nat_le, nat_lt, refl, sym, ap, ◌∙◌, arith}
+use Rattle.std.proofs.Common.{◌≡◌, ℕ, zero, suc, ◌+◌, ◌-◌, ◌*◌, ◌/◌, ◌%◌, ◌^◌, ◌<◌, ◌≤◌, ◌⊎◌, inl, inr, false, not, ◌&&◌, ◌==◌, nat_le, nat_lt, sym, ap, ◌∙◌, arith}
 use Rattle.std.specs.Int.{bit_at}
 use Rattle.std.proofs.Math.Pow.{pow-lt}
 use Rattle.std.proofs.lemmas.Bool.{cases_eq, cases_lt, le-leb, lt-leb}
@@ -80,15 +80,3 @@ few_up n few last = at (cases_lt n (2 ^ 51))
     at : (n < 2 ^ 51) ⊎ (2 ^ 51 ≤ n) → n * 2 < 2 ^ 52
     at (inl less) = omega (arith, less)
     at (inr more) = let never = sym last ∙ ap (λ b. b == 1) (bit more) in cc
-
--- the last of the deck is below no card
-pub last_not_below : (hand below both gap : ℕ) → gap < 52 → ((x : ℕ) → has_card below x ≡ is_below gap x) → ((x : ℕ) → has_card both x ≡ (has_card hand x && has_card below x)) → has_card both 51 ≡ false
-last_not_below hand below both gap inside is and_both =
-    and_both 51 ∙ ap (λ b. has_card hand 51 && b) (is 51 ∙ ap (λ b. same_suit gap 51 && b) (le-not-lt gap inside) ∙ none (same_suit gap 51)) ∙ none (has_card hand 51)
-  where
-    none : (a : Bool) → (a && false) ≡ false
-    none true = refl
-    none false = refl
-
-    le-not-lt : (gap : ℕ) → gap < 52 → nat_lt 51 gap ≡ false
-    le-not-lt gap inside = grind (arith, nat_tests)

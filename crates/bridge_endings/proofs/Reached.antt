@@ -22,7 +22,6 @@ use Rattle.bridge_endings.proofs.WorthSteps.{after_playing-left_to}
 use Rattle.bridge_endings.proofs.Settling.{settles_here, settles_found, settles_all, settles_none, settles_needless, settles_beyond, settles_whole}
 use Rattle.bridge_endings.proofs.Answered.{IsAnswered, upward_none, upward_union, within_left, within_right, ranked_more, counts_le}
 use Rattle.std.proofs.Math.Path.{fun_ext}
-use Rattle.bridge_endings.proofs.TrickWon.{dealt_out_after}
 use Rattle.bridge_endings.proofs.Closing.{none_holds, closed_out, upward_opened, settles_closed}
 use Rattle.bridge_endings.proofs.SureTrick.{sure_settles}
 
@@ -156,11 +155,6 @@ sure_answer hands left out trump leader card counts best sure upwards tricks nee
     }
 
 -- ---- hands closed up
-
--- the cards left after one is played are dealt out too
-pub left_without : (hands : List ℕ) (left rest card : ℕ) → IsDealtOut (left_to hands left) → ((other : ℕ) → has_card rest other ≡ (has_card left other && not (other == card))) → IsDealtOut (left_to hands rest)
-left_without hands left rest card out without =
-    subst IsDealtOut (sym (after_playing-left_to hands left rest card without)) (dealt_out_after (left_to hands left) out card)
 
 module _ (hands closed_hands : List ℕ) (gap : ℕ) (inside : gap < 52) (out : IsDealtOut (dealt hands)) (none : is_held (dealt hands) gap ≡ false) (is : (seat : Seat) (card : ℕ) → dealt closed_hands seat card ≡ closed gap (dealt hands seat) card) where
   same_closed : dealt closed_hands ≡ (λ seat. closed gap (dealt hands seat))

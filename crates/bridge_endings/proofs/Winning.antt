@@ -180,32 +180,6 @@ above_it suited low higher card other inside suits lows highers =
     highers ∙ ap (λ b. b && not (has_card low other)) (suits ∙ is_of_suit-card_suit card other inside)
     ∙ ap (λ b. same_suit other card && b) (ap not lows ∙ not_le card other)
 
-or_none : (a : Bool) → a ≡ (a || false)
-or_none true = refl
-or_none false = refl
-
-or_and_none : (a t tc : Bool) → tc ≡ true → a ≡ (a || (t && not tc))
-or_and_none true t tc is = refl
-or_and_none false true true is = refl
-or_and_none false true false is = cc
-or_and_none false false tc is = refl
-
-or_and_not : (a t tc : Bool) → tc ≡ false → (a || t) ≡ (a || (t && not tc))
-or_and_not true t tc is = refl
-or_and_not false true true is = cc
-or_and_not false true false is = refl
-or_and_not false false tc is = refl
-
--- without trumps, above a trump, and above another card
-pub over_none : (card other : ℕ) → (same_suit other card && nat_lt card other) ≡ is_over None card other
-over_none card other = or_none (same_suit other card && nat_lt card other)
-
-pub over_trump : (suit : Suit) (card other : ℕ) → is_of_suit suit card ≡ true → (same_suit other card && nat_lt card other) ≡ is_over (Some suit) card other
-over_trump suit card other is = or_and_none (same_suit other card && nat_lt card other) (is_of_suit suit other) (is_of_suit suit card) is
-
-pub over_other : (suit : Suit) (card other : ℕ) → is_of_suit suit card ≡ false → ((same_suit other card && nat_lt card other) || is_of_suit suit other) ≡ is_over (Some suit) card other
-over_other suit card other is = or_and_not (same_suit other card && nat_lt card other) (is_of_suit suit other) (is_of_suit suit card) is
-
 -- ---- a card and those above it
 
 -- of a suit those that are not up to a card, and the card

@@ -2,7 +2,6 @@
 use Rattle.std.proofs.Common.{◌≡◌, ℕ, zero, suc, ◌+◌, ◌-◌, ◌*◌, ◌<◌, ◌≤◌, ◌⊎◌, inl, inr, Bool, true, false, not, ◌&&◌, ◌==◌, nat_le, List, [], ◌∷◌, ◌++◌, length, map, Option, refl, sym, ap, ◌∙◌, arith, length-append}
 use Rattle.std.proofs.Math.Path.{fun_ext}
 use Rattle.std.proofs.lemmas.Bool.{cases_eq, eq-eqb, ne_eqb, lt-leb}
-use Rattle.std.proofs.lemmas.Bool.Decides.{nat_tests}
 use Rattle.bridge_cards.specs.declared.suit.Suit.{Suit}
 use Rattle.bridge_cards.specs.declared.seat.Seat.{Seat}
 use Rattle.bridge_cards.specs.declared.seat.Side.{Side}
@@ -66,10 +65,7 @@ worth_with_le trump (suc cards) held leader trick part =
         rw (ne_eqb (length (trick ++ card ∷ [])) 4 more)
         (omega (arith, length-append trick (card ∷ []), rest (after_playing card held) leader (trick ++ card ∷ []) (omega (arith, more, length-append trick (card ∷ [])))))
 
--- what is known at the start of a trick: no tricks are always reached, and more than are left never are
-pub none_needed : (need worth : ℕ) → need ≡ 0 → (need == 0) ≡ nat_le need worth
-none_needed need worth e = grind (arith, nat_tests)
-
+-- what is known at the start of a trick: more tricks than are left are never reached
 pub too_many : (trump : Option Suit) (tricks need : ℕ) (held : Seat → ℕ → Bool) (leader : Seat) (trick : List ℕ) → length trick ≡ 0 → tricks < need → (need == 0) ≡ nat_le need (worth_with trump (4 * tricks - length trick) held leader trick)
 too_many trump tricks need held leader trick empty more =
     let few = worth_with_le trump (4 * tricks - length trick) held leader trick (omega arith) in

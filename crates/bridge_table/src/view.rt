@@ -11,7 +11,7 @@ ghost use Rattle.session_rules.specs.Views.{plain_seen, IsViewOf, IsViewAmong};
 use crate::record::Record;
 use crate::table::{current, deal_on};
 use arrayvec::ArrayVec;
-use bridge_auction::{Auction, Call};
+use bridge_auction::Auction;
 use bridge_cards::{BoardNumber, Card, CardSet, Deal, Seat, Side, dealer, vulnerability_of};
 use bridge_play::Play;
 use session_rules::{BoardIndex, PlayId, Refused, RoundNumber, TableNumber, Trick, View};

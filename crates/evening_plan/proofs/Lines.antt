@@ -1,10 +1,8 @@
 -- Lines that are compared with what they must be.
-use Rattle.std.proofs.Common.{◌≡◌, ◌≢◌, ℕ, ◌+◌, ◌-◌, ◌<◌, ◌≤◌, List, [], ◌∷◌, length, get_or, map, drop, Option, Some, None, refl, sym, ap, ◌∙◌, arith}
-use Rattle.std.specs.Prelude.{slice_get, slice_index_or}
-use Rattle.std.proofs.lemmas.List.{drop_more, drop-drop, length-drop, get_or-map, length-map}
+use Rattle.std.proofs.Common.{◌≡◌, ◌≢◌, ℕ, ◌+◌, ◌-◌, ◌<◌, ◌≤◌, List, [], ◌∷◌, length, get_or, drop, Option, Some, None, refl, sym, ap, ◌∙◌, arith}
+use Rattle.std.specs.Prelude.{slice_get}
+use Rattle.std.proofs.lemmas.List.{drop_more, drop-drop, length-drop}
 use Rattle.std.proofs.lemmas.Option.{slice_get-get_or, slice_get_past}
-use Rattle.bridge_config.specs.declared.fields.PairFields.{PairFields}
-use Rattle.bridge_config.specs.ConfigValue.{pair_of}
 use Rattle.bridge_config.specs.declared.refused.ConfigRefused.{ConfigRefused}
 use Rattle.bridge_config.specs.declared.refused.ConfigRefused.TheVariants.{TooLong, Form, Range, KeyTwice, Movement}
 use Rattle.evening_plan.specs.declared.part.Part.{Part}
@@ -13,7 +11,6 @@ use Rattle.evening_plan.specs.declared.part.Check.{Check}
 use Rattle.evening_plan.specs.declared.misfit.Misfit.{Misfit}
 use Rattle.evening_plan.specs.declared.misfit.Misfit.TheVariants.{Lacking}
 use Rattle.evening_plan.specs.Misfit.{first_misfit}
-use Rattle.evening_plan.specs.Evening.{names_in}
 use Rattle.evening_plan.specs.FaultText.{line_fault, fault_by}
 use Rattle.evening_plan.specs.Kind.{kind_at}
 
@@ -38,12 +35,6 @@ lines_after texts n line rest left = ap (drop 1) (sym left) ∙ drop-drop 1 n te
 pub line_past : (texts : List (List ℕ)) (n i : ℕ) → drop n texts ≡ [] → n ≤ i → None ≡ slice_get texts i
 line_past texts n i none least =
     sym (slice_get_past texts i (omega (arith, ap length none, length-drop n texts, least)))
-
--- the names of the pair at an index
-pub names_there : (pairs : List PairFields) (i : ℕ) (d : PairFields) → i < length pairs → slice_index_or (map names_in (map pair_of pairs)) i [] ≡ names_in (pair_of (get_or pairs i d))
-names_there pairs i d within =
-    get_or-map names_in (map pair_of pairs) i (pair_of d) [] (omega (arith, within, length-map pairs pair_of))
-    ∙ ap names_in (get_or-map pair_of pairs i d (pair_of d) within)
 
 -- of a text that is not too long a line is at fault
 pub line_at_fault : (texts : List (List ℕ)) (number : ℕ) (cause : ConfigRefused) → cause ≢ TooLong → line_fault number (slice_get texts (number - 1)) (kind_at texts number) cause ≡ fault_by texts number cause

@@ -1,5 +1,5 @@
 -- Whether sessions can be compared.
-use Rattle.std.proofs.Common.{◌≡◌, ◌+◌, ◌<◌, ℕ, Bool, true, List, length, take, get_or, Option, Some, None, inl, inr, refl, sym, subst, arith}
+use Rattle.std.proofs.Common.{◌≡◌, ◌+◌, ◌<◌, ℕ, Bool, List, length, take, get_or, Option, Some, inl, inr, sym, subst, arith}
 use Rattle.std.specs.Bool.{Decides}
 use Rattle.std.proofs.lemmas.Bool.{cases_lt}
 use Rattle.std.proofs.lemmas.List.Elements.{pair_read}
@@ -13,16 +13,6 @@ pub both_there : (r : Bool) (ours theirs : Option (List ℕ)) (a b : List ℕ) �
 both_there r ours theirs a b first second same =
     subst (λ (o : Option (List ℕ)). Decides r (AreSameIfBoth o theirs)) (sym first)
     (subst (λ (t : Option (List ℕ)). Decides r (AreSameIfBoth (Some a) t)) (sym second) same)
-
--- one that is there alone, and none
-pub ours_alone : (ours theirs : Option (List ℕ)) (a : List ℕ) → ours ≡ Some a → theirs ≡ None → Decides true (AreSameIfBoth ours theirs)
-ours_alone ours theirs a first second =
-    subst (λ (o : Option (List ℕ)). Decides true (AreSameIfBoth o theirs)) (sym first)
-    (subst (λ (t : Option (List ℕ)). Decides true (AreSameIfBoth (Some a) t)) (sym second) (λ _. tt, λ _. refl))
-
-pub ours_missing : (ours theirs : Option (List ℕ)) → ours ≡ None → Decides true (AreSameIfBoth ours theirs)
-ours_missing ours theirs first =
-    subst (λ (o : Option (List ℕ)). Decides true (AreSameIfBoth o theirs)) (sym first) (λ _. tt, λ _. refl)
 
 -- one board more
 pub boards_more : (ours theirs : Deals) (number board : ℕ) → ((b : ℕ) → IsBoard b → b < number → HaveOneDeal ours theirs b) → board ≡ number → HaveOneDeal ours theirs board →

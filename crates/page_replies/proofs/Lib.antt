@@ -1,4 +1,3 @@
 pub mod SamePlace
-mod ToldViews
 mod MoreTables
 mod WrongKeys

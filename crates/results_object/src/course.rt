@@ -16,7 +16,7 @@ use bridge_cards::Card;
 use bridge_play::Play;
 use bridge_results::pages::cells::lead_cell;
 use bridge_results::{TablePlay, shown_id};
-use bridge_session::{Entry, Session};
+use bridge_session::Session;
 use serde_json::Value;
 use session_rules::PlayId;
 use std::alloc::{AllocError, Global};

@@ -1,6 +1,6 @@
 -- The records of a row and of all rows, one after the other.
 use Rattle.std.proofs.Common.{◌≡◌, ◌+◌, ◌-◌, ◌*◌, ◌<◌, ◌==◌, ℕ, zero, suc, true, false, cond, List, [], ◌∷◌, ◌++◌, length, get_or, map, take, drop, Option, Some, None, refl, sym, ap, ◌∙◌, subst, arith, length-append}
-use Rattle.std.specs.Prelude.{All, IfSome, IfNone, OnSome, slice_get, flat_map, replicate, unwrap_or}
+use Rattle.std.specs.Prelude.{All, IfNone, OnSome, slice_get, flat_map, replicate, unwrap_or}
 use Rattle.arrayvec.specs.ArrayVec.{ArrayVec}
 use Rattle.std.specs.List.{range_with_len, list_all}
 use Rattle.std.specs.Option.{option_map}
@@ -203,13 +203,6 @@ module _ (format : DiskFormat) (scoring : Scoring) (deals : Deals) (now boards :
         are.each i row found.0 is found.1,
         sym parts ∙ ap (λ ps. take boards (drop (i * boards) ps)) (sym same) ∙ ap (take boards) (drop_at (flat_map (row_parts format boards) front) rest (i * boards) long),
       )
-
-pub when_none : {A : Type 0} (P : Type 0) (o : Option A) → IfNone o P → o ≡ None → P
-when_none P None holds is = holds
-when_none P (Some x) holds is = absurd (let wrong : Some x ≡ None = is in cc)
-
-pub when_some : {A : Type 0} (P : A → Type 0) (o : Option A) (x : A) → IfSome o P → o ≡ Some x → P x
-when_some P o x holds is = subst (λ p. IfSome p P) is holds
 
 -- the boards of the table of a row
 pub boards_of_row : (tables : List (Vec Record)) (rows : List Row) (boards index : ℕ) (table : Vec Record) (row : Row)

@@ -9,11 +9,8 @@ ghost use Rattle.session_bytes.specs.Head.{head_parts, IsPairPart, IsMovementPar
 
 use crate::config_bytes::{write_configuration, write_movement, write_pair};
 use crate::heading::{key_of, read_heading, split_text};
-use arrayvec::{ArrayString, ArrayVec};
-use bridge_cards::Scoring;
-use bridge_config::{
-    Config, ConfigFields, DATE_BYTES, Key, NAME_BYTES, PairFields, read_date, read_name,
-};
+use arrayvec::ArrayVec;
+use bridge_config::{Config, ConfigFields, PairFields, read_name};
 use bridge_movement::{MOST_PAIRS, MOST_ROWS, Movement, Row, Shape};
 use session_store::PAYLOAD_BYTES;
 

@@ -5,7 +5,7 @@ use Rattle.sector_disk.specs.Disk.{Image, Disk}
 use Rattle.sector_disk.specs.Calls.{Called, Writes, Syncs}
 use Rattle.sector_disk.specs.Runs.{EveryMoment}
 use Rattle.sector_disk.proofs.ImageLaws.{with_sector-other}
-use Rattle.sector_disk.proofs.RunLaws.{begins, writes_on, syncs_on, joins, weakens, now_has}
+use Rattle.sector_disk.proofs.RunLaws.{writes_on, syncs_on, joins, weakens, now_has}
 use Rattle.sector_disk.proofs.CallLaws.{write_here, write_elsewhere}
 use Rattle.session_store.specs.Keeping.{Keeping, IsLawful, fold}
 use Rattle.session_store.specs.Form.{header_of, place}
@@ -91,11 +91,6 @@ module _ {S A R : Type 0} (kept : Keeping S A R) where
       )
 
 module _ {D : Type 0} (disk : Disk D) where
-  -- before the first call
-  pub behind_begins : (old : D) → disk.honest old → EveryMoment disk old old (SameBehind (disk.may_leave old))
-  behind_begins old honest =
-      begins disk old (SameBehind (disk.may_leave old)) honest (λ c left. (c, left, λ k above. refl))
-
   -- a write of a sector that a store uses leaves those behind alone
   pub behind_write : {T E : Type 0} (old mid new : D) (i : ℕ) (bytes : List ℕ) (result : Result T E) → i < 2048
       → EveryMoment disk old mid (SameBehind (disk.may_leave old)) → Called disk mid new result

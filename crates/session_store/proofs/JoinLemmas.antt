@@ -89,10 +89,6 @@ module _ {D E S A R : Type 0} (kept : Keeping S A R) (lawful : IsLawful kept) (f
     (call : Continues kept first v [] v1) (same_failed : v1.failed ≡ v.failed) (same_state : v1.state ≡ v.state)
     (apart : place v1.epoch ≢ place own) (begun : BeginsCopy kept second e v1.epoch s w1) (is_state : s ≡ v1.state)
     (small : v1.epoch < 2 ^ 64) (settling : Continues kept first v1 [] v2) (copying : Continues kept second w1 [] w2) where
-  -- the copy
-  copy-state : w1.state ≡ s
-  copy-state = ap (λ (x : StoreValue E S A). x.state) begun.is
-
   copy-side : own < v.epoch → second.honest e → ((c : Image) → second.may_leave e c → NothingLater own c) → IsSide kept second w1 v1.state
   copy-side below honest nothing =
       let rises = call.ages.rises in

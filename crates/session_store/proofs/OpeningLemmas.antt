@@ -6,7 +6,7 @@ use Rattle.session_store.specs.Keeping.{Keeping}
 use Rattle.session_store.specs.Form.{place}
 use Rattle.session_store.specs.declared.reading.Header.{Header}
 use Rattle.session_store.specs.declared.fault.StoreFault.{StoreFault}
-use Rattle.session_store.specs.declared.fault.StoreFault.TheVariants.{Disk as DiskFailed, TooSmall, Damaged, NotFormatted, EpochsSpent, NoMemory}
+use Rattle.session_store.specs.declared.fault.StoreFault.TheVariants.{Disk as DiskFailed, Damaged, NotFormatted, EpochsSpent, NoMemory}
 use Rattle.session_store.specs.Stands.{header_in, after_state, after_parts, after_header, recovered, replay, parts_from}
 use Rattle.session_store.specs.Opening.{IsCause, HasNext, reading_from, reading}
 
@@ -20,10 +20,7 @@ cause-from inner outer mid before now found all fault honest same so (inr (none_
 cause-from inner outer mid before now found all fault honest same so (inr (none_rose, inr is)) =
     inr (none_rose ∙ same, inr (is.0, is.1, λ holds. so holds (is.2 (honest holds))))
 
--- neither a disk that is too small nor a fault of it is that memory was refused
-pub too_small-not_memory : {P : Type 0} → TooSmall ≡ NoMemory → P
-too_small-not_memory same = cc
-
+-- a fault of the disk is not that memory was refused
 pub disk-not_memory : {P : Type 0} → DiskFailed ≡ NoMemory → P
 disk-not_memory same = cc
 

@@ -23,14 +23,6 @@ none-still {D} {S} {A} {R} kept disk v v' call none =
     call.pending ∙ ap (λ (xs : List A). drop call.confirmed (xs ++ [])) none ∙ drop_all call.confirmed [] (omega arith)
 
 module _ {D E S A R : Type 0} (kept : Keeping S A R) (first : Disk D) (second : Disk E) (v : StoreValue D S A) (w : StoreValue E S A) (s : S) where
-  -- a pair of which both disks are kept is settled
-  pub level-told : v.failed ≡ false → w.failed ≡ false → IsServedPair kept first second v w s → IsToldPair kept first second v w s
-  level-told works works' served = record {
-    served = served;
-    first_behind = λ failed still. not_both v failed works;
-    second_behind = λ failed still. not_both w failed works';
-  }
-
   -- one of which the first was lost is settled once the second is two epochs above
   pub second-rises : v.failed ≡ true → w.failed ≡ false → (w' : StoreValue E S A) → Continues kept second w [] w'
       → w'.failed ≡ w.failed → w'.state ≡ w.state → v.epoch + 2 ≤ w'.epoch

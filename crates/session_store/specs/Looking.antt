@@ -1,5 +1,5 @@
 -- What is seen on a disk that is left as it is: the snapshot of a header, and its epoch's records.
-use Rattle.std.specs.Prelude.{◌≡◌, ◌<◌, ◌≤◌, ◌+◌, nat_lt, ℕ, if◌then◌else◌, Option, Some, None, Result, Ok}
+use Rattle.std.specs.Prelude.{◌≡◌, ◌<◌, ◌≤◌, ◌+◌, nat_lt, ℕ, if◌then◌else◌, Option, Some, None, Ok}
 use Rattle.sector_disk.specs.Disk.{Image, Disk}
 use Rattle.session_store.specs.Layout.{journal_place, record_limit, second_place}
 use Rattle.session_store.specs.Keeping.{Keeping}
@@ -23,10 +23,6 @@ unfoldable pub older_header_in : Image → Option Header
 older_header_in image = older (header_at 0 (image 0)) (header_at second_place (image second_place))
 
 module _ {S A R : Type 0} (kept : Keeping S A R) where
-  -- the state of the older snapshot and its epoch's records, or why there is none
-  abbrev pub older_state : Image → Result S StoreFault
-  older_state image = after_header kept image (older_header_in image)
-
   -- the journal has this record of an epoch, in form
   abbrev pub HoldsRecord : DiskFormat → Image → ℕ → ℕ → Type 0
   HoldsRecord format image epoch k = (a : A) × (entry_in kept format epoch k (image (journal_place + k)) ≡ Holds a)

@@ -1,6 +1,6 @@
 -- Lines that came in one request, answered over a store.
-use Rattle.std.proofs.Common.{◌≡◌, ℕ, ◌<◌, Bool, true, false, List, [], ◌∷◌, ◌++◌, length, take, IfSome, Option, Some, refl, sym, ap, ◌∙◌, subst, subst₂, arith, append-nil}
-use Rattle.std.proofs.lemmas.Bool.{true≢false, lt-leb}
+use Rattle.std.proofs.Common.{◌≡◌, ℕ, ◌<◌, Bool, List, [], ◌++◌, length, take, IfSome, Option, Some, sym, ap, ◌∙◌, subst, subst₂, arith, append-nil}
+use Rattle.std.proofs.lemmas.Bool.{lt-leb}
 use Rattle.std.proofs.lemmas.List.{take_all}
 use Rattle.std.specs.Prelude.{nat_le}
 use Rattle.std.specs.Io.KnownBytes.{Appends}
@@ -18,18 +18,7 @@ use Rattle.table_server.specs.declared.served.Served.{Served}
 use Rattle.line_replies.specs.Limit.{limit_notice}
 use Rattle.table_server.specs.declared.served.ServedKeys.{ServedKeys}
 use Rattle.table_server.specs.ServedStreams.{HasCounted, HasServed, StopsServing}
-use Rattle.table_pages.specs.Answered.{CountsKeys, IsAnswered, IsCutOff, is_settled}
-
--- a settled store that works has nothing pending
-pub settled_to : {A : Type 0} (failed : Bool) (pending : List A) → is_settled failed pending ≡ true → failed ≡ false → pending ≡ []
-settled_to true pending settled works = absurd (true≢false works)
-settled_to false [] settled works = refl
-settled_to false (action ∷ pending) settled works = absurd (true≢false (sym settled))
-
--- and one that has nothing pending where it works is settled
-pub settled_from : {A : Type 0} (failed : Bool) (pending : List A) → (failed ≡ false → pending ≡ []) → is_settled failed pending ≡ true
-settled_from true pending none = refl
-settled_from false pending none = ap (is_settled false) (none refl)
+use Rattle.table_pages.specs.Answered.{CountsKeys, IsAnswered, IsCutOff}
 
 -- the replies to a whole body are all that is written
 pub is_answered : {D : Type 0} (disk : Disk D) (set : LineSet) (start store : StoreValue D SessionValue Action) (body text : List ℕ) (reader writer : Stream) (served : Served)

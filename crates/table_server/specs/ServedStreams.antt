@@ -100,12 +100,7 @@ module _ {D : Type 0} (disk : Disk D) where
     StopsServing start store reader writer Write = StopsReplying start store reader writer ⊎ StopsNoticing start store reader writer
     StopsServing start store reader writer Accept = ⊥
 
-    -- what holds at the end
-    abbrev pub EndsServing : StoreValue D SessionValue Action → StoreValue D SessionValue Action → Stream → Stream → Result Served ServeFault → Type 0
-    EndsServing start store reader writer (Ok result) = HasServed start store reader writer result
-    EndsServing start store reader writer (Err fault) = StopsServing start store reader writer fault
-
-    -- the same, with the keys counted
+    -- what holds at the end, with the keys counted
     abbrev pub EndsCounting : StoreValue D SessionValue Action → StoreValue D SessionValue Action → Stream → Stream → Result ServedKeys ServeFault → Type 0
     EndsCounting start store reader writer (Ok result) = HasCounted start store reader writer result
     EndsCounting start store reader writer (Err fault) = StopsServing start store reader writer fault

@@ -20,7 +20,7 @@ use arrayvec::ArrayString;
 use bridge_cards::{
     BoardNumber, Deal, Scoring, dealer, seat_text, vulnerability_of, vulnerability_text,
 };
-use line_text::{NumberText, number_text, signed_text, write_text};
+use line_text::{NumberText, number_text, write_text};
 use page_layout::{
     Format, Level, PageText, Section, push_heading, push_paragraph, push_row, push_section_end,
     push_section_start, push_table_end, push_table_start, push_titles,

@@ -1,5 +1,5 @@
 //! The slips of a small evening, as they were written by hand.
-use arrayvec::{ArrayString, ArrayVec};
+use arrayvec::ArrayVec;
 use bridge_config::{Config, read_config};
 use evening_draft::PairNames;
 use evening_slips::{SlipSheet, write_slips};

@@ -13,7 +13,7 @@ mod tables;
 use crate::tests::expect_eq;
 use bridge_cards::Side;
 use bridge_ranking::PlayResult;
-use bridge_results::{BoardLine, CardLine, Frequency, Results, TablePlay, frequencies};
+use bridge_results::{BoardLine, CardLine, Frequency, Results, frequencies};
 use bridge_session::{Action, Average, Field, Session, TrickCount};
 use script::{DIRECTOR, IMPS, MATCHPOINTS, act, board, dealt, play, played, round_1, round_2};
 use std::process::Abort;

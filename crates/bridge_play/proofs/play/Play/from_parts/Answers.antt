@@ -1,4 +1,4 @@
-use Rattle.std.proofs.Common.{◌≡◌, ℕ, Bool, not, true, false, refl, sym, ap, subst, ◌∙◌}
+use Rattle.std.proofs.Common.{◌≡◌, ℕ, true, refl, sym, ap, subst, ◌∙◌}
 use Rattle.std.specs.Prelude.{Option, Some, None, IfSome}
 use Rattle.bridge_play.specs.declared.claim.Claim.{Claim}
 use Rattle.bridge_play.specs.CardPlay.{CardPlayValue}
@@ -23,10 +23,6 @@ claim_of play made is same = claim_regular play made (subst (λ (o : Option Clai
 tested : (play : CardPlayValue) (claims : ℕ) (claim : Option Claim) (made : Claim) → claim ≡ Some made
     → is_claim_in (with_claims play claims (Some made)) made ≡ is_claim_in (with_claims play claims claim) made
 tested play claims claim made is = ap (λ (o : Option Claim). is_claim_in (with_claims play claims o) made) (sym is)
-
-test_holds : (b : Bool) → not b ≡ false → b ≡ true
-test_holds true is = refl
-test_holds false is = cc
 
 pub returns-then-not-is_claim_in-clause-accepted : goal.returns-then-not-is_claim_in-clause-accepted
 returns-then-not-is_claim_in-clause-accepted c = (
