@@ -1,3 +1,4 @@
 pub mod TurnLemmas
 pub mod Leading
 pub mod Limits
+mod Rooms

@@ -1,11 +1,8 @@
 -- Who is connected, and with what limits.
 use Rattle.std.specs.Prelude.{◌≡◌, ◌≢◌, ◌⊎◌, ◌<◌, ℕ, length, Option, None, Some, IsNone}
-use Rattle.std.specs.declared.net.ip_addr.IpAddr.{IpAddr}
-use Rattle.std.specs.declared.time.Instant.{Instant}
 use Rattle.slab.specs.Slab.{Slab, get}
 use Rattle.http_server.specs.declared.state.Config.{Config}
 use Rattle.http_server.specs.Connection.{config_of, history}
-use Rattle.http_server.specs.History.{new_history}
 use Rattle.web_loop.specs.declared.client.Client.{Client}
 use Rattle.web_loop.specs.declared.clients.Clients.{Clients}
 
@@ -28,6 +25,12 @@ abbrev pub released : {T : Type 0} → Option (Client T) → Option (Client T)
 released None = None
 released (Some client) = Some (record client { held = None })
 
+-- The client under a key is gone, if there was one, and nothing else changed.
+pub record Closes {T : Type 0} (key : ℕ) (old new : Clients T) : Type 0 where
+  pub gone : get new.connected key ≡ None
+  pub others : (other : ℕ) → other ≢ key → get new.connected other ≡ get old.connected other
+  pub rest : new ≡ record old { connected = new.connected }
+
 -- each key has what it had, or nothing
 abbrev pub Loses : {T : Type 0} → Slab (Client T) → Slab (Client T) → Type 0
 Loses old new = (key : ℕ) → (get new key ≡ None) ⊎ (get new key ≡ get old key)
@@ -36,15 +39,3 @@ Loses old new = (key : ℕ) → (get new key ≡ None) ⊎ (get new key ≡ get 
 pub record OnlyCloses {T : Type 0} (old new : Clients T) : Type 0 where
   pub rest : new ≡ record old { connected = new.connected }
   pub others : Loses old.connected new.connected
-
--- A client came now from an address: its connection has the limits, and nothing was received or sent in it. Others may be gone.
-pub record Admits {T : Type 0} (address : IpAddr) (now : Instant) (old new : Clients T) : Type 0 where
-  pub key : ℕ
-  pub client : Client T
-  pub stands : get new.connected key ≡ Some client
-  pub limits : config_of client.connection ≡ old.config
-  pub anew : history client.connection ≡ new_history
-  pub comes_from : client.address ≡ address
-  pub heard : client.heard ≡ now
-  pub unheld : client.held ≡ None
-  pub others : (other : ℕ) → other ≢ key → (get new.connected other ≡ None) ⊎ (get new.connected other ≡ get old.connected other)

@@ -2,3 +2,4 @@ pub mod Turns
 pub mod Offenders
 pub mod Waiting
 pub mod Connected
+pub mod Room

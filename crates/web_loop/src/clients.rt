@@ -3,7 +3,8 @@ ghost use Rattle.std.specs.Prelude.{◌≡◌, ◌≢◌, ◌-◌, ◌<◌, ◌|
 ghost use Rattle.std.specs.Bool.{Decides};
 ghost use Rattle.std.specs.Time.{instant_nanos};
 ghost use Rattle.slab.specs.Slab.{get};
-ghost use Rattle.web_loop.specs.Connected.{released, Admits, AreLimited, IsPendingAt, KeepsLimits, OnlyCloses};
+ghost use Rattle.web_loop.specs.Connected.{released, AreLimited, Closes, IsPendingAt, KeepsLimits};
+ghost use Rattle.web_loop.specs.Room.{Admits, AdmitsNone};
 ghost use Rattle.web_loop.specs.Turns.{LeadsTo, StandsAfter, TurnsIf, TurnsOf};
 ghost use Rattle.web_loop.specs.Waiting.{NotesIf, NotesOf};
 
@@ -75,7 +76,7 @@ impl<T: Read + Write + OpenStream + Drop> Clients<T> {
     pub fn admit(&mut self, stream: T, address: IpAddr, now: Instant) -> io::Result<()>
         ensures rest { self.new ≡ record self.old { connected = self.new.connected } }
         ensures admitted { OnOk result (Admits address now self.old self.new) }
-        ensures err { OnErr result (OnlyCloses self.old self.new) }
+        ensures err { OnErr result (AdmitsNone address self.old self.new) }
         ensures limits { KeepsLimits self.old self.new }
     {
         stream.set_nonblocking(true)?;
@@ -91,9 +92,7 @@ impl<T: Read + Write + OpenStream + Drop> Clients<T> {
 
     /// Closes the connection of the client under a key, if there is one.
     fn close(&mut self, key: usize)
-        ensures gone { get self.new.connected key ≡ None }
-        ensures others { (other : ℕ) → other ≢ key → get self.new.connected other ≡ get self.old.connected other }
-        ensures rest { self.new ≡ record self.old { connected = self.new.connected } }
+        ensures { Closes key self.old self.new }
     {
         self.connected.try_remove(key);
     }
