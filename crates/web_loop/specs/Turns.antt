@@ -1,5 +1,5 @@
 -- What connections carry, and what becomes of the service that answers them.
-use Rattle.std.specs.Prelude.{◌≡◌, ◌⊎◌, ℕ, zero, suc, List, ◌++◌, Bool, true, false, Option, None, Some}
+use Rattle.std.specs.Prelude.{◌≡◌, ◌≢◌, ◌⊎◌, ◌||◌, ℕ, zero, suc, List, ◌++◌, Bool, true, false, Option, None, Some}
 use Rattle.std.specs.Io.KnownBytes.{Appends, Consumes}
 use Rattle.http.specs.declared.request.Request.{Request}
 use Rattle.http_server.specs.declared.response.Response.{Response}
@@ -32,6 +32,11 @@ LeadsTo answers old new = (calls : List Call) × Chain answers old calls new
 abbrev pub ClosesDone : {T : Type 0} → Turn → Client T → Client T → Type 0
 ClosesDone turn client after = IsDone (history after.connection) → (turn ≡ Closes) ⊎ (after.connection ≡ client.connection)
 
+-- whether a client did something in its turn
+abbrev pub has_moved : Turn → Bool
+has_moved (Waits moved) = moved
+has_moved _ = true
+
 module _ {S T : Type 0} (answers : S → Request (List ℕ) → Response → S → Type 0) (remaining : T → Option (List ℕ)) where
   -- A client took a turn: the service was called as often as its connection was, which received what the client sent. It keeps
   -- its limits and its address.
@@ -51,18 +56,20 @@ module _ {S T : Type 0} (answers : S → Request (List ℕ) → Response → S �
   StandsAfter turn None found old new = (found ≡ None) × (turn ≡ Waits false)
   StandsAfter turn (Some client) found old new = (after : Client T) × (found ≡ Some after) × TakesTurn client after old new × ClosesDone turn client after
 
-  -- the turns of the clients under the first so many keys, one after another
-  abbrev pub TurnsOf : (ℕ → Option (Client T)) → ℕ → S → S → Type 0
-  TurnsOf clients zero old new = new ≡ old
-  TurnsOf clients (suc count) old new = (mid : S) × TurnsOf clients count old mid × TurnsIf (clients count) mid new
+  -- A turn of the client under a key, if there is one, that ended so: it goes where the turn closes, and else stands there still.
+  abbrev pub TurnEnds : Turn → Option (Client T) → Option (Client T) → S → S → Type 0
+  TurnEnds turn found left old new =
+      ((turn ≡ Closes) × (left ≡ None) × TurnsIf found old new) ⊎ ((turn ≢ Closes) × StandsAfter turn found left old new)
+
+  -- the turns of the clients under the first so many keys, one after another, and whether any of them did something
+  abbrev pub TurnsOf : (ℕ → Option (Client T)) → (ℕ → Option (Client T)) → ℕ → S → S → Bool → Type 0
+  TurnsOf clients left zero old new moved = (new ≡ old) × (moved ≡ false)
+  TurnsOf clients left (suc count) old new moved =
+      (mid : S) × (before : Bool) × (turn : Turn) × TurnsOf clients left count old mid before × TurnEnds turn (clients count) (left count) mid new
+      × (moved ≡ (before || has_moved turn))
 
 -- what a step did that failed so: it blocked, was interrupted, or closes
 abbrev pub step_of : ErrorKind → Step
 step_of WouldBlock = Blocked
 step_of Interrupted = InterruptedStep
 step_of _ = Closed
-
--- whether a client did something in its turn
-abbrev pub has_moved : Turn → Bool
-has_moved (Waits moved) = moved
-has_moved _ = true

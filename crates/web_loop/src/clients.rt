@@ -5,7 +5,7 @@ ghost use Rattle.std.specs.Time.{instant_nanos};
 ghost use Rattle.slab.specs.Slab.{get};
 ghost use Rattle.web_loop.specs.Connected.{released, AreLimited, Closes, IsPendingAt, KeepsLimits};
 ghost use Rattle.web_loop.specs.Room.{Admits, AdmitsNone};
-ghost use Rattle.web_loop.specs.Turns.{LeadsTo, StandsAfter, TurnsIf, TurnsOf};
+ghost use Rattle.web_loop.specs.Turns.{LeadsTo, StandsAfter, TurnEnds, TurnsIf, TurnsOf};
 ghost use Rattle.web_loop.specs.Waiting.{NotesIf, NotesOf};
 
 mod room;
@@ -159,7 +159,7 @@ impl<T: Read + Write + OpenStream + Drop> Clients<T> {
     /// what these clients sent, and for nothing else.
     pub fn take_turns<S: LastingService>(&mut self, service: &mut S, now: Instant) -> bool
         ensures leads { LeadsTo S.answers service.old service.new }
-        ensures turns { TurnsOf S.answers T.remaining (get self.old.connected) self.old.connected.capacity service.old service.new }
+        ensures turns { TurnsOf S.answers T.remaining (get self.old.connected) (get self.new.connected) self.old.connected.capacity service.old service.new result }
         ensures noted { NotesOf S.offences now (get self.old.connected) self.old.connected.capacity service.old service.new self.old.offenders self.new.offenders }
         ensures moved { self.new.moved ≡ result }
         ensures limits { KeepsLimits self.old self.new }
@@ -178,7 +178,7 @@ impl<T: Read + Write + OpenStream + Drop> Clients<T> {
         now: Instant,
     ) -> bool
         ensures leads { LeadsTo S.answers service.old service.new }
-        ensures turns { TurnsOf S.answers T.remaining (get self.old.connected) self.old.connected.capacity service.old service.new }
+        ensures turns { TurnsOf S.answers T.remaining (get self.old.connected) (get self.new.connected) self.old.connected.capacity service.old service.new result }
         ensures noted { NotesOf S.offences now (get self.old.connected) self.old.connected.capacity service.old service.new self.old.offenders self.new.offenders }
         ensures limits { KeepsLimits self.old self.new }
     {
@@ -200,10 +200,8 @@ impl<T: Read + Write + OpenStream + Drop> Clients<T> {
         now: Instant,
     ) -> Turn
         ensures leads { LeadsTo S.answers service.old service.new }
-        ensures turn { TurnsIf S.answers T.remaining (get self.old.connected key) service.old service.new }
+        ensures turn { TurnEnds S.answers T.remaining result (get self.old.connected key) (get self.new.connected key) service.old service.new }
         ensures noted { NotesIf S.offences now (get self.old.connected key) service.old service.new self.old.offenders self.new.offenders }
-        ensures closes { result ≡ Turn.Closes → get self.new.connected key ≡ None }
-        ensures stands { result ≢ Turn.Closes → StandsAfter S.answers T.remaining result (get self.old.connected key) (get self.new.connected key) service.old service.new }
         ensures others { (other : ℕ) → other ≢ key → get self.new.connected other ≡ get self.old.connected other }
         ensures limits { KeepsLimits self.old self.new }
     {
