@@ -28,9 +28,20 @@ Sends old new writer grown =
 abbrev pub LeadsTo : {S : Type 0} → (S → Request (List ℕ) → Response → S → Type 0) → S → S → Type 0
 LeadsTo answers old new = (calls : List Call) × Chain answers old calls new
 
--- a client that is done closes, unless its turn changed nothing
-abbrev pub ClosesDone : {T : Type 0} → Turn → Client T → Client T → Type 0
-ClosesDone turn client after = IsDone (history after.connection) → (turn ≡ Closes) ⊎ (after.connection ≡ client.connection)
+-- Nothing was received or sent.
+pub record IsStill (old new : History) : Type 0 where
+  pub received : new.received ≡ old.received
+  pub sent : new.sent ≡ old.sent
+
+-- A turn of a connection closes where that is done, and moved unless it was still.
+pub record EndsSo (turn : Turn) (old new : History) : Type 0 where
+  pub done : IsDone new → turn ≡ Closes
+  pub still : turn ≡ Waits false → IsStill old new
+
+-- A client that is done closes, unless its turn changed nothing; and it moved unless it was still.
+pub record EndsTurn {T : Type 0} (turn : Turn) (client after : Client T) : Type 0 where
+  pub done : IsDone (history after.connection) → (turn ≡ Closes) ⊎ (after.connection ≡ client.connection)
+  pub still : turn ≡ Waits false → IsStill (history client.connection) (history after.connection)
 
 -- whether a client did something in its turn
 abbrev pub has_moved : Turn → Bool
@@ -54,7 +65,7 @@ module _ {S T : Type 0} (answers : S → Request (List ℕ) → Response → S �
   -- the client that stood under a key took a turn that ended so, and stands there still; or none did, and none moved
   abbrev pub StandsAfter : Turn → Option (Client T) → Option (Client T) → S → S → Type 0
   StandsAfter turn None found old new = (found ≡ None) × (turn ≡ Waits false)
-  StandsAfter turn (Some client) found old new = (after : Client T) × (found ≡ Some after) × TakesTurn client after old new × ClosesDone turn client after
+  StandsAfter turn (Some client) found old new = (after : Client T) × (found ≡ Some after) × TakesTurn client after old new × EndsTurn turn client after
 
   -- A turn of the client under a key, if there is one, that ended so: it goes where the turn closes, and else stands there still.
   abbrev pub TurnEnds : Turn → Option (Client T) → Option (Client T) → S → S → Type 0

@@ -2,7 +2,7 @@
 ghost use Rattle.std.specs.Prelude.{◌≡◌, ◌⊎◌, ◌<◌, true, false, None, IsNone, length};
 ghost use Rattle.std.specs.Bool.{Decides};
 ghost use Rattle.http_server.specs.Connection.{history};
-ghost use Rattle.web_loop.specs.Turns.{ClosesDone, LeadsTo, Sends, TakesTurn};
+ghost use Rattle.web_loop.specs.Turns.{EndsTurn, LeadsTo, Sends, TakesTurn};
 ghost use Rattle.web_loop.specs.Waiting.{is_late, HoldsAnew, IsFree, IsHeard, IsOnHold, IsPutOff, IsSlowed, StaysPutOff, NotesTurn};
 
 use crate::offenders::{Offenders, millis};
@@ -173,7 +173,7 @@ impl<T: Read + Write + Drop> Client<T> {
         ensures anew { IsFree S.stays looks now self.old offenders.old service.old → S.waits service.new ≡ S.waits service.old → self.new.held ≡ None }
         ensures written { Sends (history self.old.connection) (history self.new.connection) (T.contents self.old.writer) (T.contents self.new.writer) }
         ensures noted { NotesTurn S.offences now self.old service.old service.new offenders.old offenders.new }
-        ensures done { ClosesDone result self.old self.new }
+        ensures ends { EndsTurn result self.old self.new }
         ensures silent { result ≡ Turn.Waits false → IsSlowed self.old now offenders.old ⊎ IsHeard now self.new }
         ensures heard { result ≡ Turn.Waits false → IsFree S.stays looks now self.old offenders.old service.old
             → S.offences service.new ≡ S.offences service.old → self.new.heard ≡ self.old.heard }
@@ -203,7 +203,7 @@ impl<T: Read + Write + Drop> Client<T> {
         ensures held { HoldsAnew (S.wish service.new) now self.new.held }
         ensures anew { S.waits service.new ≡ S.waits service.old → self.new.held ≡ None }
         ensures written { Sends (history self.old.connection) (history self.new.connection) (T.contents self.old.writer) (T.contents self.new.writer) }
-        ensures done { ClosesDone result self.old self.new }
+        ensures ends { EndsTurn result self.old self.new }
         ensures heard { self.new.heard ≡ self.old.heard }
     {
         let before = service.waits();

@@ -3,7 +3,7 @@ ghost use Rattle.std.specs.Prelude.{◌≡◌, ◌≢◌, ◌⊎◌, ◌<◌, tr
 ghost use Rattle.http_server.specs.Connection.{config_of, history};
 ghost use Rattle.http_server.specs.Exchange.{Calls};
 ghost use Rattle.http_server.specs.History.{IsDone};
-ghost use Rattle.web_loop.specs.Turns.{has_moved, step_of, Receives, Sends};
+ghost use Rattle.web_loop.specs.Turns.{has_moved, step_of, EndsSo, IsStill, Receives, Sends};
 ghost use Rattle.web_loop.specs.Waiting.{StepHolds, TurnHolds};
 
 use crate::service::LastingService;
@@ -115,6 +115,7 @@ fn take_step<S: LastingService, R: Read, W: Write>(
     ensures calls { Calls S.answers service.old service.new (history connection.old).calls (history connection.new).calls }
     ensures holds { StepHolds result (S.waits service.old) (S.waits service.new) }
     ensures done { IsDone (history connection.new) → (result ≡ Step.Moved) ⊎ (result ≡ Step.Closed) }
+    ensures still { result ≡ Step.Blocked → IsStill (history connection.old) (history connection.new) }
     ensures config { config_of connection.new ≡ config_of connection.old }
 {
     let before = service.waits();
@@ -156,7 +157,7 @@ pub fn take_turn<S: LastingService, R: Read, W: Write>(
     ensures written { Sends (history connection.old) (history connection.new) (W.contents writer.old) (W.contents writer.new) }
     ensures calls { Calls S.answers service.old service.new (history connection.old).calls (history connection.new).calls }
     ensures holds { TurnHolds result (S.waits service.old) (S.waits service.new) }
-    ensures done { IsDone (history connection.new) → result ≡ Turn.Closes }
+    ensures ends { EndsSo result (history connection.old) (history connection.new) }
     ensures config { config_of connection.new ≡ config_of connection.old }
 {
     let before = service.offences();

@@ -20,4 +20,4 @@ returns-in-Some-clause-stands g c =
     let stood = subst (λ found. IsSome found) c.in-Some.ensures.value refl in
     let left = Updates-with_value c.args.connected.now c.args.key c.take_turn.new.self stood in
     subst (λ found. StandsAfter g.S.Service.answers g.T.Read.remaining c.take_turn.result found (get (with_value c.args.connected.now c.args.key c.take_turn.new.self) c.args.key) c.args.service.now c.take_turn.new.service)
-    c.in-Some.ensures.value (c.take_turn.new.self, left.changed, c.take_turn.ensures.turn, c.take_turn.ensures.done)
+    c.in-Some.ensures.value (c.take_turn.new.self, left.changed, c.take_turn.ensures.turn, c.take_turn.ensures.ends)

@@ -1,10 +1,14 @@
-use Rattle.std.proofs.Common.{◌≡◌, ◌⊎◌, inl, inr, arith, ℕ, Bool, true, false, if◌then◌else◌, refl, ap, sym, subst, ◌∙◌}
+use Rattle.std.proofs.Common.{◌≡◌, ◌⊎◌, inl, inr, arith, ℕ, Bool, true, false, nat_lt, if◌then◌else◌, refl, ap, sym, subst, ◌∙◌}
+use Rattle.std.proofs.lemmas.Bool.Decides.{nat_tests}
 use Rattle.http_server.specs.Connection.{history}
+use Rattle.http_server.specs.declared.connection.Connection.{Connection}
+use Rattle.http_server.specs.History.{History, IsDone}
 use Rattle.http_server.proofs.StreamLemmas.{Calls-then}
 use Rattle.web_loop.specs.declared.turn.Step.{Step}
 use Rattle.web_loop.specs.declared.turn.Step.TheVariants.{Moved, Interrupted}
 use Rattle.web_loop.specs.declared.turn.Turn.{Turn}
 use Rattle.web_loop.specs.declared.turn.Turn.TheVariants.{GoesOn, Closes}
+use Rattle.web_loop.specs.Turns.{has_moved, EndsSo, IsStill}
 use Rattle.web_loop.specs.Waiting.{StepHolds, TurnHolds}
 use Rattle.web_loop.proofs.TurnLemmas.{Receives-then, Sends-then}
 use Rattle.web_loop.proofs.turn.take_turn.Goals as goal
@@ -13,6 +17,11 @@ use Rattle.web_loop.proofs.turn.take_turn.Goals as goal
 holds-cut_short : (done : Bool) (turn : Turn) (old new : ℕ) → turn ≡ (if done then Closes else GoesOn) → new ≡ old → TurnHolds turn old new
 holds-cut_short true turn old new is same = subst (λ (t : Turn). TurnHolds t old new) (sym is) tt
 holds-cut_short false turn old new is same = subst (λ (t : Turn). TurnHolds t old new) (sym is) same
+
+-- and closes where the connection is done
+ends-cut_short : (done : Bool) (turn : Turn) (old new : History) → turn ≡ (if done then Closes else GoesOn) → (IsDone new → done ≡ true) → EndsSo turn old new
+ends-cut_short true turn old new is ends = record { done = λ _. is; still = λ waits. cc }
+ends-cut_short false turn old new is ends = record { done = λ d. let never = ends d in cc; still = λ waits. cc }
 
 -- a step at which the turn goes on is not held
 steps_on : (step : Step) (old new : ℕ) → (step ≡ Moved) ⊎ (step ≡ Interrupted) → StepHolds step old new → new ≡ old
@@ -29,7 +38,13 @@ returns-in-Blocked g c =
       written = Sends-then old here new (g.W.Write.contents c.args.writer.now) (g.W.Write.contents c.loop-steps.writer) (g.W.Write.contents c.take_step.new.writer) c.loop-steps.invariant.1 c.in-Blocked.ensures.written;
       calls = Calls-then g.S.Service.answers _ _ _ _ _ _ c.loop-steps.invariant.2 c.in-Blocked.ensures.calls;
       holds = c.in-Blocked.ensures.holds ∙ c.loop-steps.invariant.3;
-      done = λ d. absurd (grind (arith, c.in-Blocked.ensures.done d));
+      ends = record {
+        done = λ d. absurd (grind (arith, c.in-Blocked.ensures.done d));
+        still = λ is.
+            let waits : nat_lt 0 c.loop-steps.steps ≡ false = ap (λ (turn : Turn). has_moved turn) is in
+            let first : c.loop-steps.steps ≡ 0 = grind (arith, nat_tests, waits) in
+            subst (λ (before : Connection). IsStill (history before) new) (c.loop-steps.invariant.5 first) (c.take_step.ensures.still c.in-Blocked.is);
+      };
       config = c.in-Blocked.ensures.config ∙ c.loop-steps.invariant.4;
     }
 
@@ -43,7 +58,7 @@ returns-in-Held g c =
       written = Sends-then old here new (g.W.Write.contents c.args.writer.now) (g.W.Write.contents c.loop-steps.writer) (g.W.Write.contents c.take_step.new.writer) c.loop-steps.invariant.1 c.in-Held.ensures.written;
       calls = Calls-then g.S.Service.answers _ _ _ _ _ _ c.loop-steps.invariant.2 c.in-Held.ensures.calls;
       holds = tt;
-      done = λ d. absurd (grind (arith, c.in-Held.ensures.done d));
+      ends = record { done = λ d. absurd (grind (arith, c.in-Held.ensures.done d)); still = λ is. cc };
       config = c.in-Held.ensures.config ∙ c.loop-steps.invariant.4;
     }
 
@@ -57,7 +72,7 @@ returns-in-Closed g c =
       written = Sends-then old here new (g.W.Write.contents c.args.writer.now) (g.W.Write.contents c.loop-steps.writer) (g.W.Write.contents c.take_step.new.writer) c.loop-steps.invariant.1 c.in-Closed.ensures.written;
       calls = Calls-then g.S.Service.answers _ _ _ _ _ _ c.loop-steps.invariant.2 c.in-Closed.ensures.calls;
       holds = tt;
-      done = λ _. refl;
+      ends = record { done = λ _. refl; still = λ is. cc };
       config = c.in-Closed.ensures.config ∙ c.loop-steps.invariant.4;
     }
 
@@ -71,7 +86,7 @@ returns-then-not-wants_write g c =
       written = Sends-then old here new (g.W.Write.contents c.args.writer.now) (g.W.Write.contents c.loop-steps.writer) (g.W.Write.contents c.take_step.new.writer) c.loop-steps.invariant.1 c.take_step.ensures.written;
       calls = Calls-then g.S.Service.answers _ _ _ _ _ _ c.loop-steps.invariant.2 c.take_step.ensures.calls;
       holds = holds-cut_short c.is_done.result c.cut_short.result _ _ c.cut_short.ensures (steps_on c.take_step.result _ _ c.in-Moved.is c.take_step.ensures.holds ∙ c.loop-steps.invariant.3);
-      done = λ d. c.cut_short.ensures ∙ ap (λ (done : Bool). if done then Closes else GoesOn) (c.is_done.ensures.1 d);
+      ends = ends-cut_short c.is_done.result c.cut_short.result old new c.cut_short.ensures c.is_done.ensures.1;
       config = c.take_step.ensures.config ∙ c.loop-steps.invariant.4;
     }
 
@@ -81,7 +96,7 @@ returns g c = record {
   written = c.loop-steps.invariant.1;
   calls = c.loop-steps.invariant.2;
   holds = holds-cut_short c.is_done-2.result c.cut_short-2.result _ _ c.cut_short-2.ensures c.loop-steps.invariant.3;
-  done = λ d. c.cut_short-2.ensures ∙ ap (λ (done : Bool). if done then Closes else GoesOn) (c.is_done-2.ensures.1 d);
+  ends = ends-cut_short c.is_done-2.result c.cut_short-2.result (history c.args.connection.now) (history c.loop-steps.connection) c.cut_short-2.ensures c.is_done-2.ensures.1;
   config = c.loop-steps.invariant.4;
 }
 
@@ -95,4 +110,5 @@ loop-steps-preserved g c =
       Calls-then g.S.Service.answers _ _ _ _ _ _ c.loop-steps.invariant.2 c.take_step.ensures.calls,
       steps_on c.take_step.result _ _ c.in-Moved.is c.take_step.ensures.holds ∙ c.loop-steps.invariant.3,
       c.take_step.ensures.config ∙ c.loop-steps.invariant.4,
+      λ none. absurd (omega (arith, none)),
     )

@@ -11,3 +11,4 @@ invariant-loop-steps g l =
     × Calls g.S.Service.answers l.fn.service l.service (history l.fn.connection).calls (history l.connection).calls
     × (g.S.LastingService.waits l.service ≡ g.S.LastingService.waits l.fn.service)
     × (config_of l.connection ≡ config_of l.fn.connection)
+    × (l.steps ≡ 0 → l.connection ≡ l.fn.connection)
