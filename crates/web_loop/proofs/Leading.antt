@@ -7,37 +7,37 @@ use Rattle.std.specs.declared.time.Instant.{Instant}
 use Rattle.web_loop.specs.declared.client.Client.{Client}
 use Rattle.web_loop.specs.declared.offenders.Offenders.{Offenders}
 use Rattle.web_loop.specs.declared.turn.Turn.{Turn}
-use Rattle.web_loop.specs.Turns.{has_moved, LeadsTo, TurnEnds, TurnsOf}
-use Rattle.web_loop.specs.Waiting.{NotesIf, NotesOf}
+use Rattle.web_loop.specs.Turns.{has_moved, LeadsTo}
+use Rattle.web_loop.specs.Round.{HasTurn, TurnsOf}
 
 pub LeadsTo-then : {S : Type 0} (answers : S → Request (List ℕ) → Response → S → Type 0) (a b c : S) → LeadsTo answers a b → LeadsTo answers b c → LeadsTo answers a c
 LeadsTo-then answers a b c x y = (x.0 ++ y.0, Chain-append answers x.0 y.0 a b c x.1 y.1)
 
--- and what is noted of it
-pub NotesOf-more : {S T : Type 0} (offences : S → ℕ) (now : Instant) (clients : ℕ → Option (Client T)) (count : ℕ) (old mid new : S) (before known after : Offenders)
-    → NotesOf offences now clients count old mid before known → NotesIf offences now (clients count) mid new known after
-    → NotesOf offences now clients (count + 1) old new before after
-NotesOf-more offences now clients count old mid new before known after first turn =
-    let next : suc count ≡ count + 1 = omega arith in
-    subst (λ (n : ℕ). NotesOf offences now clients n old new before after) next (mid, known, first, turn)
+module _ {S T : Type 0} (answers : S → Request (List ℕ) → Response → S → Type 0) (stays : S → List ℕ → Type 0) (wish : S → Option (List ℕ)) (waits offences : S → ℕ)
+    (remaining contents : T → Option (List ℕ)) (now : Instant) (looks : Bool) where
+  -- those that are left under the first keys are all that the turns of their clients are of
+  pub TurnsOf-left : (clients left after : ℕ → Option (Client T)) (count : ℕ) (old new : S) (before known : Offenders) (moved : Bool)
+      → ((key : ℕ) → key < count → after key ≡ left key)
+      → TurnsOf answers stays wish waits offences remaining contents now looks clients left count old new before known moved
+      → TurnsOf answers stays wish waits offences remaining contents now looks clients after count old new before known moved
+  TurnsOf-left clients left after zero old new before known moved same had = had
+  TurnsOf-left clients left after (suc count) old new before known moved same (mid, noted, did, turn, had, has, is) = (
+    mid,
+    noted,
+    did,
+    turn,
+    TurnsOf-left clients left after count old mid before noted did (λ key below. same key (omega (arith, below))) had,
+    subst (λ (found : Option (Client T)). HasTurn answers stays wish waits offences remaining contents now (looks || did) turn (clients count) found mid new noted known)
+        (sym (same count (omega arith))) has,
+    is,
+  )
 
--- those that are left under the first keys are all that the turns of their clients are of
-pub TurnsOf-left : {S T : Type 0} (answers : S → Request (List ℕ) → Response → S → Type 0) (remaining : T → Option (List ℕ)) (clients left after : ℕ → Option (Client T)) (count : ℕ) (old new : S) (moved : Bool)
-    → ((key : ℕ) → key < count → after key ≡ left key) → TurnsOf answers remaining clients left count old new moved → TurnsOf answers remaining clients after count old new moved
-TurnsOf-left answers remaining clients left after zero old new moved same turns = turns
-TurnsOf-left {S} {T} answers remaining clients left after (suc count) old new moved same (mid, before, turn, turns, ends, is) = (
-  mid,
-  before,
-  turn,
-  TurnsOf-left answers remaining clients left after count old mid before (λ key below. same key (omega (arith, below))) turns,
-  subst (λ (found : Option (Client T)). TurnEnds answers remaining turn (clients count) found mid new) (sym (same count (omega arith))) ends,
-  is,
-)
-
--- the turn of the next client
-pub TurnsOf-more : {S T : Type 0} (answers : S → Request (List ℕ) → Response → S → Type 0) (remaining : T → Option (List ℕ)) (clients left : ℕ → Option (Client T)) (count : ℕ) (old mid new : S) (before moved : Bool) (turn : Turn)
-    → TurnsOf answers remaining clients left count old mid before → TurnEnds answers remaining turn (clients count) (left count) mid new → moved ≡ has_moved turn
-    → TurnsOf answers remaining clients left (count + 1) old new (before || moved)
-TurnsOf-more answers remaining clients left count old mid new before moved turn turns ends is =
-    let next : suc count ≡ count + 1 = omega arith in
-    subst (λ (n : ℕ). TurnsOf answers remaining clients left n old new (before || moved)) next (mid, before, turn, turns, ends, ap (λ b. before || b) is)
+  -- the turn of the next client
+  pub TurnsOf-more : (clients left : ℕ → Option (Client T)) (count : ℕ) (old mid new : S) (before noted known : Offenders) (did moved : Bool) (turn : Turn)
+      → TurnsOf answers stays wish waits offences remaining contents now looks clients left count old mid before noted did
+      → HasTurn answers stays wish waits offences remaining contents now (looks || did) turn (clients count) (left count) mid new noted known → moved ≡ has_moved turn
+      → TurnsOf answers stays wish waits offences remaining contents now looks clients left (count + 1) old new before known (did || moved)
+  TurnsOf-more clients left count old mid new before noted known did moved turn had has is =
+      let next : suc count ≡ count + 1 = omega arith in
+      subst (λ (n : ℕ). TurnsOf answers stays wish waits offences remaining contents now looks clients left n old new before known (did || moved)) next
+      (mid, noted, did, turn, had, has, ap (λ b. did || b) is)

@@ -3,3 +3,4 @@ pub mod Offenders
 pub mod Waiting
 pub mod Connected
 pub mod Room
+pub mod Round

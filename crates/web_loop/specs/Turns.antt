@@ -1,5 +1,5 @@
 -- What connections carry, and what becomes of the service that answers them.
-use Rattle.std.specs.Prelude.{◌≡◌, ◌≢◌, ◌⊎◌, ◌||◌, ℕ, zero, suc, List, ◌++◌, Bool, true, false, Option, None, Some}
+use Rattle.std.specs.Prelude.{◌≡◌, ◌⊎◌, ℕ, List, ◌++◌, Bool, true, false, Option}
 use Rattle.std.specs.Io.KnownBytes.{Appends, Consumes}
 use Rattle.http.specs.declared.request.Request.{Request}
 use Rattle.http_server.specs.declared.response.Response.{Response}
@@ -56,28 +56,6 @@ module _ {S T : Type 0} (answers : S → Request (List ℕ) → Response → S �
     pub read : Receives (history client.connection) (history after.connection) (remaining client.reader) (remaining after.reader)
     pub config : config_of after.connection ≡ config_of client.connection
     pub address : after.address ≡ client.address
-
-  -- the turn of a client, if there is one
-  abbrev pub TurnsIf : Option (Client T) → S → S → Type 0
-  TurnsIf None old new = new ≡ old
-  TurnsIf (Some client) old new = (after : Client T) × TakesTurn client after old new
-
-  -- the client that stood under a key took a turn that ended so, and stands there still; or none did, and none moved
-  abbrev pub StandsAfter : Turn → Option (Client T) → Option (Client T) → S → S → Type 0
-  StandsAfter turn None found old new = (found ≡ None) × (turn ≡ Waits false)
-  StandsAfter turn (Some client) found old new = (after : Client T) × (found ≡ Some after) × TakesTurn client after old new × EndsTurn turn client after
-
-  -- A turn of the client under a key, if there is one, that ended so: it goes where the turn closes, and else stands there still.
-  abbrev pub TurnEnds : Turn → Option (Client T) → Option (Client T) → S → S → Type 0
-  TurnEnds turn found left old new =
-      ((turn ≡ Closes) × (left ≡ None) × TurnsIf found old new) ⊎ ((turn ≢ Closes) × StandsAfter turn found left old new)
-
-  -- the turns of the clients under the first so many keys, one after another, and whether any of them did something
-  abbrev pub TurnsOf : (ℕ → Option (Client T)) → (ℕ → Option (Client T)) → ℕ → S → S → Bool → Type 0
-  TurnsOf clients left zero old new moved = (new ≡ old) × (moved ≡ false)
-  TurnsOf clients left (suc count) old new moved =
-      (mid : S) × (before : Bool) × (turn : Turn) × TurnsOf clients left count old mid before × TurnEnds turn (clients count) (left count) mid new
-      × (moved ≡ (before || has_moved turn))
 
 -- what a step did that failed so: it blocked, was interrupted, or closes
 abbrev pub step_of : ErrorKind → Step

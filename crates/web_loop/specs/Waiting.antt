@@ -1,5 +1,5 @@
 -- Answers that are put off.
-use Rattle.std.specs.Prelude.{◌≡◌, ◌⊎◌, ◌-◌, ◌<◌, ℕ, zero, suc, nat_le, Bool, true, false, List, Option, None, Some}
+use Rattle.std.specs.Prelude.{◌≡◌, ◌⊎◌, ◌-◌, ◌<◌, ℕ, nat_le, Bool, true, false, List, Option, None, Some}
 use Rattle.std.specs.Time.{instant_nanos}
 use Rattle.std.specs.declared.time.Instant.{Instant}
 use Rattle.web_loop.specs.declared.client.Client.{Client}
@@ -56,17 +56,6 @@ module _ {S T : Type 0} (offences : S → ℕ) (now : Instant) where
     pub begun : after.begun ≡ before.begun
     pub slowed : IsSlowed client now before → (new ≡ old) × (after ≡ before)
     pub noted : AreNoted (address_number client.address) (offences new - offences old) (millis before.begun now) before.known.items after.known.items
-
-  -- the turn of a client, if there is one
-  abbrev pub NotesIf : Option (Client T) → S → S → Offenders → Offenders → Type 0
-  NotesIf None old new before after = (new ≡ old) × (after ≡ before)
-  NotesIf (Some client) old new before after = NotesTurn client old new before after
-
-  -- the turns of the clients under the first so many keys, one after another
-  abbrev pub NotesOf : (ℕ → Option (Client T)) → ℕ → S → S → Offenders → Offenders → Type 0
-  NotesOf clients zero old new before after = (new ≡ old) × (after ≡ before)
-  NotesOf clients (suc count) old new before after =
-      (mid : S) × (known : Offenders) × NotesOf clients count old mid before known × NotesIf (clients count) mid new known after
 
 -- A step behind a request that waits is held or closes: at any other, as many such requests were answered as before.
 abbrev pub StepHolds : Step → ℕ → ℕ → Type 0

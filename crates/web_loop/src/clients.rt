@@ -1,12 +1,11 @@
 //! The clients of the server.
-ghost use Rattle.std.specs.Prelude.{◌≡◌, ◌≢◌, ◌-◌, ◌<◌, ◌||◌, ℕ, nat_le, true, false, [], None, OnOk, OnErr, if◌then◌else◌};
+ghost use Rattle.std.specs.Prelude.{◌≡◌, ◌≢◌, ◌-◌, ◌<◌, ◌||◌, ℕ, true, false, [], None, OnOk, OnErr, if◌then◌else◌};
 ghost use Rattle.std.specs.Bool.{Decides};
-ghost use Rattle.std.specs.Time.{instant_nanos};
 ghost use Rattle.slab.specs.Slab.{get};
 ghost use Rattle.web_loop.specs.Connected.{released, AreLimited, Closes, IsPendingAt, KeepsLimits};
 ghost use Rattle.web_loop.specs.Room.{Admits, AdmitsNone};
-ghost use Rattle.web_loop.specs.Turns.{LeadsTo, StandsAfter, TurnEnds, TurnsIf, TurnsOf};
-ghost use Rattle.web_loop.specs.Waiting.{NotesIf, NotesOf};
+ghost use Rattle.web_loop.specs.Turns.{LeadsTo};
+ghost use Rattle.web_loop.specs.Round.{looks_at, HasTurn, TakesRound, TurnAt};
 
 mod room;
 
@@ -145,7 +144,7 @@ impl<T: Read + Write + OpenStream + Drop> Clients<T> {
 
     /// Whether each client is looked at for what it wishes, as after turns in which something was done, and each second.
     fn looks(&mut self, now: Instant) -> bool
-        ensures looks { result ≡ (self.old.moved || nat_le 1000000000 (instant_nanos now - instant_nanos self.old.looked)) }
+        ensures looks { result ≡ looks_at self.old now }
         ensures looked { self.new ≡ record self.old { looked = (if result then now else self.old.looked) } }
     {
         let looks = self.moved || now.duration_since(self.looked) >= Duration::from_secs(1);
@@ -159,8 +158,7 @@ impl<T: Read + Write + OpenStream + Drop> Clients<T> {
     /// what these clients sent, and for nothing else.
     pub fn take_turns<S: LastingService>(&mut self, service: &mut S, now: Instant) -> bool
         ensures leads { LeadsTo S.answers service.old service.new }
-        ensures turns { TurnsOf S.answers T.remaining (get self.old.connected) (get self.new.connected) self.old.connected.capacity service.old service.new result }
-        ensures noted { NotesOf S.offences now (get self.old.connected) self.old.connected.capacity service.old service.new self.old.offenders self.new.offenders }
+        ensures turns { TakesRound S.answers S.stays S.wish S.waits S.offences T.remaining T.contents now (looks_at self.old now) self.old self.new service.old service.new result }
         ensures moved { self.new.moved ≡ result }
         ensures limits { KeepsLimits self.old self.new }
     {
@@ -178,14 +176,13 @@ impl<T: Read + Write + OpenStream + Drop> Clients<T> {
         now: Instant,
     ) -> bool
         ensures leads { LeadsTo S.answers service.old service.new }
-        ensures turns { TurnsOf S.answers T.remaining (get self.old.connected) (get self.new.connected) self.old.connected.capacity service.old service.new result }
-        ensures noted { NotesOf S.offences now (get self.old.connected) self.old.connected.capacity service.old service.new self.old.offenders self.new.offenders }
+        ensures turns { TakesRound S.answers S.stays S.wish S.waits S.offences T.remaining T.contents now looks self.old self.new service.old service.new result }
         ensures limits { KeepsLimits self.old self.new }
     {
         let mut moved = false;
         for key in 0..self.connected.capacity() {
             moved |= self
-                .take_turn_at(key, service, looks || moved, now)
+                .take_turn_at(key, service, looks | moved, now)
                 .has_moved();
         }
         moved
@@ -200,8 +197,8 @@ impl<T: Read + Write + OpenStream + Drop> Clients<T> {
         now: Instant,
     ) -> Turn
         ensures leads { LeadsTo S.answers service.old service.new }
-        ensures turn { TurnEnds S.answers T.remaining result (get self.old.connected key) (get self.new.connected key) service.old service.new }
-        ensures noted { NotesIf S.offences now (get self.old.connected key) service.old service.new self.old.offenders self.new.offenders }
+        ensures turn { HasTurn S.answers S.stays S.wish S.waits S.offences T.remaining T.contents now looks result
+            (get self.old.connected key) (get self.new.connected key) service.old service.new self.old.offenders self.new.offenders }
         ensures others { (other : ℕ) → other ≢ key → get self.new.connected other ≡ get self.old.connected other }
         ensures limits { KeepsLimits self.old self.new }
     {
@@ -213,7 +210,7 @@ impl<T: Read + Write + OpenStream + Drop> Clients<T> {
             looks,
             now,
         );
-        if turn == Turn::Closes {
+        if let Turn::Closes = turn {
             self.close(key);
         }
         turn
@@ -230,9 +227,8 @@ fn turn_at<T: Read + Write + Drop, S: LastingService>(
     now: Instant,
 ) -> Turn
     ensures leads { LeadsTo S.answers service.old service.new }
-    ensures turn { TurnsIf S.answers T.remaining (get connected.old key) service.old service.new }
-    ensures stands { StandsAfter S.answers T.remaining result (get connected.old key) (get connected.new key) service.old service.new }
-    ensures noted { NotesIf S.offences now (get connected.old key) service.old service.new offenders.old offenders.new }
+    ensures turn { TurnAt S.answers S.stays S.wish S.waits S.offences T.remaining T.contents now looks result
+        (get connected.old key) (get connected.new key) service.old service.new offenders.old offenders.new }
     ensures others { (other : ℕ) → other ≢ key → get connected.new other ≡ get connected.old other }
 {
     match connected.get_mut(key) {

@@ -1,9 +1,13 @@
 use Rattle.std.proofs.Common.{ap, sym, ◌∙◌, inl, inr, arith}
 use Rattle.std.proofs.lemmas.Bool.{cases_eq}
+use Rattle.slab.specs.Slab.{get}
+use Rattle.web_loop.specs.declared.clients.Clients.{Clients}
+use Rattle.web_loop.specs.declared.turn.Turn.{Turn}
+use Rattle.web_loop.specs.Round.{left_by}
 use Rattle.web_loop.proofs.clients.Clients.take_turn_at.Goals as goal
 
-pub returns-then-eq-clause-limits : goal.returns-then-eq-clause-limits
-returns-then-eq-clause-limits g c =
+pub returns-in-Closes-clause-limits : goal.returns-in-Closes-clause-limits
+returns-in-Closes-clause-limits g c =
     let same = ap (λ clients. clients.config) c.close.ensures.rest in
     record {
       config = same;
@@ -14,3 +18,8 @@ returns-then-eq-clause-limits g c =
                 limited other client (sym (c.close.ensures.others other differs ∙ c.turn_at-turn.ensures.others other differs) ∙ found) ∙ sym same
           ];
     }
+
+pub returns-in-Closes-clause-turn : goal.returns-in-Closes-clause-turn
+returns-in-Closes-clause-turn g c =
+    let offenders = ap (λ (clients : Clients g.row.T.Denot). clients.offenders) c.close.ensures.rest in
+    (get c.turn_at-turn.new.connected c.args.key, rw offenders c.turn_at-turn.ensures.turn, c.close.ensures.gone ∙ sym (ap (λ (turn : Turn). left_by turn (get c.turn_at-turn.new.connected c.args.key)) c.in-Closes.is))
