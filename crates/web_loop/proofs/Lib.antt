@@ -2,3 +2,4 @@ pub mod TurnLemmas
 pub mod Leading
 pub mod Limits
 mod Rooms
+mod Serves

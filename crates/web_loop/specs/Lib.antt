@@ -4,3 +4,4 @@ pub mod Waiting
 pub mod Connected
 pub mod Room
 pub mod Round
+pub mod Serving

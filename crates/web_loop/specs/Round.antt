@@ -1,5 +1,5 @@
 -- A round, in which each client has its turn.
-use Rattle.std.specs.Prelude.{◌≡◌, ◌⊎◌, ◌-◌, ℕ, zero, suc, nat_le, List, Bool, false, ◌||◌, Option, None, Some}
+use Rattle.std.specs.Prelude.{◌≡◌, ◌⊎◌, ◌-◌, ℕ, zero, suc, nat_le, List, Bool, false, ◌||◌, if◌then◌else◌, Option, None, Some}
 use Rattle.std.specs.Time.{instant_nanos}
 use Rattle.std.specs.declared.time.Instant.{Instant}
 use Rattle.slab.specs.Slab.{get}
@@ -57,6 +57,11 @@ module _ {S T : Type 0} (answers : S → Request (List ℕ) → Response → S �
       × HasTurn (looks || did) turn (clients count) (left count) mid new noted known × (moved ≡ (did || has_moved turn))
 
   -- the turns of all clients
-  abbrev pub TakesRound : Bool → Clients T → Clients T → S → S → Bool → Type 0
-  TakesRound looks old new service after moved =
-      TurnsOf looks (get old.connected) (get new.connected) old.connected.capacity service after old.offenders new.offenders moved
+  abbrev pub TakesTurns : Bool → Clients T → Clients T → S → S → Bool → Type 0
+  TakesTurns looks clients after old new moved =
+      TurnsOf looks (get clients.connected) (get after.connected) clients.connected.capacity old new clients.offenders after.offenders moved
+
+  -- Each client had its turn, and it is kept whether any of them did something and when each was last looked at.
+  pub record TakesRound (clients after : Clients T) (old new : S) : Type 0 where
+    pub turns : TakesTurns (looks_at clients now) clients after old new after.moved
+    pub looked : after.looked ≡ (if looks_at clients now then now else clients.looked)

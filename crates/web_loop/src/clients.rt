@@ -5,7 +5,7 @@ ghost use Rattle.slab.specs.Slab.{get};
 ghost use Rattle.web_loop.specs.Connected.{released, AreLimited, Closes, IsPendingAt, KeepsLimits};
 ghost use Rattle.web_loop.specs.Room.{Admits, AdmitsNone};
 ghost use Rattle.web_loop.specs.Turns.{LeadsTo};
-ghost use Rattle.web_loop.specs.Round.{looks_at, HasTurn, TakesRound, TurnAt};
+ghost use Rattle.web_loop.specs.Round.{looks_at, HasTurn, TakesRound, TakesTurns, TurnAt};
 
 mod room;
 
@@ -158,7 +158,7 @@ impl<T: Read + Write + OpenStream + Drop> Clients<T> {
     /// what these clients sent, and for nothing else.
     pub fn take_turns<S: LastingService>(&mut self, service: &mut S, now: Instant) -> bool
         ensures leads { LeadsTo S.answers service.old service.new }
-        ensures turns { TakesRound S.answers S.stays S.wish S.waits S.offences T.remaining T.contents now (looks_at self.old now) self.old self.new service.old service.new result }
+        ensures turns { TakesRound S.answers S.stays S.wish S.waits S.offences T.remaining T.contents now self.old self.new service.old service.new }
         ensures moved { self.new.moved ≡ result }
         ensures limits { KeepsLimits self.old self.new }
     {
@@ -176,7 +176,8 @@ impl<T: Read + Write + OpenStream + Drop> Clients<T> {
         now: Instant,
     ) -> bool
         ensures leads { LeadsTo S.answers service.old service.new }
-        ensures turns { TakesRound S.answers S.stays S.wish S.waits S.offences T.remaining T.contents now looks self.old self.new service.old service.new result }
+        ensures turns { TakesTurns S.answers S.stays S.wish S.waits S.offences T.remaining T.contents now looks self.old self.new service.old service.new result }
+        ensures looked { self.new.looked ≡ self.old.looked }
         ensures limits { KeepsLimits self.old self.new }
     {
         let mut moved = false;
@@ -199,6 +200,7 @@ impl<T: Read + Write + OpenStream + Drop> Clients<T> {
         ensures leads { LeadsTo S.answers service.old service.new }
         ensures turn { HasTurn S.answers S.stays S.wish S.waits S.offences T.remaining T.contents now looks result
             (get self.old.connected key) (get self.new.connected key) service.old service.new self.old.offenders self.new.offenders }
+        ensures looked { self.new.looked ≡ self.old.looked }
         ensures others { (other : ℕ) → other ≢ key → get self.new.connected other ≡ get self.old.connected other }
         ensures limits { KeepsLimits self.old self.new }
     {

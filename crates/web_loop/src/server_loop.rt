@@ -1,7 +1,8 @@
 //! The server's loop.
-ghost use Rattle.std.specs.Prelude.{◌≡◌, true};
+ghost use Rattle.std.specs.Prelude.{◌≡◌, ℕ, true, OnOk, OnErr};
 ghost use Rattle.web_loop.specs.Connected.{AreLimited, KeepsLimits};
 ghost use Rattle.web_loop.specs.Turns.{LeadsTo};
+ghost use Rattle.web_loop.specs.Serving.{IsRound, LastRounds, LetsInSome, Rounds, Serves};
 
 use crate::clients::{Clients, MOST_CLIENTS};
 use crate::readiness::Readiness;
@@ -26,7 +27,8 @@ fn admit_waiting<N: Net>(
 )
 where
     N::Stream: AsRawFd,
-    ensures { KeepsLimits clients.old clients.new }
+    ensures came { LetsInSome now clients.old clients.new }
+    ensures limits { KeepsLimits clients.old clients.new }
 {
     for _ in 0..MOST_CLIENTS {
         match listener.accept() {
@@ -52,6 +54,8 @@ where
     N::Stream: AsRawFd,
     requires lasts { S.lasts service.old ≡ true }
     ensures leads { LeadsTo S.answers service.old service.new }
+    ensures round { OnOk result (IsRound S.lasts S.answers S.stays S.wish S.waits S.offences N.Stream.remaining N.Stream.contents clients.old clients.new service.old service.new) }
+    ensures none { OnErr result ((clients.new ≡ clients.old) × (service.new ≡ service.old)) }
     ensures limits { KeepsLimits clients.old clients.new }
 {
     let now = Instant::now(rt)?;
@@ -70,6 +74,7 @@ fn send_pending<N: Net + Clock, S: LastingService>(
     service: &mut S,
 ) -> io::Result<()>
     ensures leads { LeadsTo S.answers service.old service.new }
+    ensures rounds { (count : ℕ) × LastRounds S.lasts S.answers S.stays S.wish S.waits S.offences N.Stream.remaining N.Stream.contents count clients.old clients.new service.old service.new }
     ensures limits { KeepsLimits clients.old clients.new }
 {
     let begun = Instant::now(rt)?;
@@ -101,6 +106,7 @@ fn take_rounds_for<N: Net + Clock, S: LastingService>(
 where
     N::Stream: AsRawFd,
     ensures leads { LeadsTo S.answers service.old service.new }
+    ensures rounds { (count : ℕ) × Rounds S.lasts S.answers S.stays S.wish S.waits S.offences N.Stream.remaining N.Stream.contents count clients.old clients.new service.old service.new }
     ensures limits { KeepsLimits clients.old clients.new }
 {
     for _ in 0..u64::MAX {
@@ -128,6 +134,7 @@ where
     requires limits { S.limits clients.old.config }
     requires limited { AreLimited clients.old.config clients.old.connected }
     ensures leads { LeadsTo S.answers service.old service.new }
+    ensures serves { Serves S.lasts S.answers S.stays S.wish S.waits S.offences N.Stream.remaining N.Stream.contents clients.old clients.new service.old service.new }
     ensures config { clients.new.config ≡ clients.old.config }
     ensures limited { AreLimited clients.new.config clients.new.connected }
 {

@@ -30,4 +30,5 @@ loop-key-preserved g c =
           c.has_moved-moved.ensures,
       λ other later. turn.others other (λ same. omega (arith, same, later)) ∙ before.2 other (omega (arith, later)),
       KeepsLimits-then _ _ _ before.3 turn.limits,
+      turn.looked ∙ before.4,
     )

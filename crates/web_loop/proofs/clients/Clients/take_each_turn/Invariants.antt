@@ -12,3 +12,4 @@ invariant-loop-key g l =
     l.fn.now l.fn.looks (get l.fn.self.connected) (get l.self.connected) l.key l.fn.service l.service l.fn.self.offenders l.self.offenders l.moved
     × ((other : ℕ) → l.key ≤ other → get l.self.connected other ≡ get l.fn.self.connected other)
     × KeepsLimits l.fn.self l.self
+    × (l.self.looked ≡ l.fn.self.looked)
