@@ -12,14 +12,14 @@ pub KeepsLimits-then : {T : Type 0} (a b c : Clients T) → KeepsLimits a b → 
 KeepsLimits-then a b c x y = record { config = y.config ∙ x.config; each = λ limited. y.each (x.each limited) }
 
 -- a client that came has the limits, as those that are left have them
-pub KeepsLimits-admits : {T : Type 0} (address : IpAddr) (now : Instant) (old new : Clients T) → new.config ≡ old.config → Admits address now old new → KeepsLimits old new
-KeepsLimits-admits address now old new same admits = record {
+pub KeepsLimits-admits : {T : Type 0} (stream : T) (address : IpAddr) (now : Instant) (old new : Clients T) → new.config ≡ old.config → Admits stream address now old new → KeepsLimits old new
+KeepsLimits-admits stream address now old new same admits = record {
   config = same;
   each = λ limited other client found.
       elim (cases_eq other admits.key) [
-        | inl at ↦ grind (arith, at, found, admits.stands, admits.limits, same)
+        | inl at ↦ grind (arith, at, found, admits.comes.changed, admits.limits, same)
         | inr differs ↦
-            let there = sym (admits.others other differs) ∙ found in
+            let there = sym (admits.comes.others other differs) ∙ found in
             elim (admits.room.closes.others other) [
               | inl none ↦ grind (arith, none, there)
               | inr kept ↦ limited other client (sym kept ∙ there) ∙ sym same

@@ -1,6 +1,6 @@
 -- Who is connected, and with what limits.
-use Rattle.std.specs.Prelude.{◌≡◌, ◌≢◌, ◌⊎◌, ◌<◌, ℕ, length, Option, None, Some, IsNone}
-use Rattle.slab.specs.Slab.{Slab, get}
+use Rattle.std.specs.Prelude.{◌≡◌, ◌⊎◌, ◌<◌, ℕ, length, Option, None, Some, IsNone}
+use Rattle.slab.specs.Slab.{Slab, Updates, get}
 use Rattle.http_server.specs.declared.state.Config.{Config}
 use Rattle.http_server.specs.Connection.{config_of, history}
 use Rattle.web_loop.specs.declared.client.Client.{Client}
@@ -27,15 +27,10 @@ released (Some client) = Some (record client { held = None })
 
 -- The client under a key is gone, if there was one, and nothing else changed.
 pub record Closes {T : Type 0} (key : ℕ) (old new : Clients T) : Type 0 where
-  pub gone : get new.connected key ≡ None
-  pub others : (other : ℕ) → other ≢ key → get new.connected other ≡ get old.connected other
+  pub removes : Updates old.connected new.connected key None
   pub rest : new ≡ record old { connected = new.connected }
-
--- each key has what it had, or nothing
-abbrev pub Loses : {T : Type 0} → Slab (Client T) → Slab (Client T) → Type 0
-Loses old new = (key : ℕ) → (get new key ≡ None) ⊎ (get new key ≡ get old key)
 
 -- Some clients are gone, and nothing else changed.
 pub record OnlyCloses {T : Type 0} (old new : Clients T) : Type 0 where
+  pub others : (key : ℕ) → (get new.connected key ≡ None) ⊎ (get new.connected key ≡ get old.connected key)
   pub rest : new ≡ record old { connected = new.connected }
-  pub others : Loses old.connected new.connected

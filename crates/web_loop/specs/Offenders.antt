@@ -64,7 +64,3 @@ IsNoted address wrong at old new =
     ((index : ℕ) × (offender : Offender) × (index < length old) × (slice_index_or old index offender ≡ offender) × (offender.address ≡ address) × IsRemembered wrong at offender (remove old index) new)
     ⊎ (((offender : Offender) × (0 < wrong) × All (λ other. other.address ≢ address) old × HasNoOffence address offender × IsRemembered wrong at offender old new)
     ⊎ (All (λ other. other.address ≢ address) old × (wrong ≡ 0) × (new ≡ old)))
-
--- so many offences were answered at an address, and are noted; where there were none, perhaps nothing is
-abbrev pub AreNoted : ℕ → ℕ → ℕ → List Offender → List Offender → Type 0
-AreNoted address wrong at old new = IsNoted address wrong at old new ⊎ ((wrong ≡ 0) × (new ≡ old))

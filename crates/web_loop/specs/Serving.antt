@@ -1,5 +1,6 @@
 -- What a server does, round by round.
-use Rattle.std.specs.Prelude.{◌≡◌, ◌⊎◌, ◌≤◌, ℕ, zero, suc, List, Bool, true, Option}
+use Rattle.std.specs.Prelude.{◌≡◌, ◌⊎◌, ◌≤◌, ◌<◌, ℕ, zero, suc, List, Bool, true, Option, Result, OnOk}
+use Rattle.std.specs.declared.io.Error.{Error}
 use Rattle.std.specs.declared.net.ip_addr.IpAddr.{IpAddr}
 use Rattle.std.specs.declared.time.Instant.{Instant}
 use Rattle.slab.specs.Slab.{get}
@@ -10,13 +11,13 @@ use Rattle.web_loop.specs.Connected.{released}
 use Rattle.web_loop.specs.Room.{Admits, AdmitsNone}
 use Rattle.web_loop.specs.Round.{TakesRound}
 
--- so many who waited at the listener came, one after another, or found no room
+-- so many came, one after another, or found no room
 abbrev pub LetsIn : {T : Type 0} → Instant → ℕ → Clients T → Clients T → Type 0
 LetsIn now zero old new = new ≡ old
 LetsIn {T} now (suc count) old new =
-    (mid : Clients T) × (address : IpAddr) × LetsIn now count old mid × (Admits address now mid new ⊎ AdmitsNone address mid new)
+    (mid : Clients T) × (stream : T) × (address : IpAddr) × LetsIn now count old mid × (Admits stream address now mid new ⊎ AdmitsNone address mid new)
 
--- Whoever waited was let in, 128 at most.
+-- Some who waited came, or found no room: 128 at most.
 pub record LetsInSome {T : Type 0} (now : Instant) (old new : Clients T) : Type 0 where
   pub count : ℕ
   pub few : count ≤ 128
@@ -29,7 +30,7 @@ pub record Releases {T : Type 0} (old new : Clients T) : Type 0 where
 
 module _ {S T : Type 0} (lasts : S → Bool) (answers : S → Request (List ℕ) → Response → S → Type 0) (stays : S → List ℕ → Type 0) (wish : S → Option (List ℕ))
     (waits offences : S → ℕ) (remaining contents : T → Option (List ℕ)) where
-  -- A round, while the service lasts: whoever waits is let in, and each client has its turn.
+  -- A round, while the service lasts: some are let in, and each client has its turn.
   pub record IsRound (clients after : Clients T) (old new : S) : Type 0 where
     pub goes_on : lasts old ≡ true
     pub now : Instant
@@ -54,11 +55,12 @@ module _ {S T : Type 0} (lasts : S → Bool) (answers : S → Request (List ℕ)
   LastRounds zero clients after old new = (after ≡ clients) × (new ≡ old)
   LastRounds (suc count) clients after old new = (mid : Clients T) × (between : S) × LastRounds count clients mid old between × IsLastRound mid after between new
 
-  -- A server took rounds, and then those that send what is pending.
-  pub record Serves (clients after : Clients T) (old new : S) : Type 0 where
+  -- A server took rounds, and then those that send what is pending, at least one unless the clock failed.
+  pub record Serves (result : Result (Unit {0}) Error) (clients after : Clients T) (old new : S) : Type 0 where
     pub rounds : ℕ
     pub last : ℕ
     pub mid : Clients T
     pub between : S
     pub served : Rounds rounds clients mid old between
     pub sent : LastRounds last mid after between new
+    pub ends : OnOk result (0 < last)

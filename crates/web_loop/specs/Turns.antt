@@ -1,18 +1,19 @@
 -- What connections carry, and what becomes of the service that answers them.
-use Rattle.std.specs.Prelude.{◌≡◌, ◌⊎◌, ℕ, List, ◌++◌, Bool, true, false, Option}
+use Rattle.std.specs.Prelude.{◌≡◌, ◌≢◌, ◌⊎◌, [], ℕ, List, ◌++◌, Bool, true, false, Option}
 use Rattle.std.specs.Io.KnownBytes.{Appends, Consumes}
 use Rattle.http.specs.declared.request.Request.{Request}
 use Rattle.http_server.specs.declared.response.Response.{Response}
 use Rattle.http_server.specs.Connection.{config_of, history}
 use Rattle.http_server.specs.Exchange.{Call, Calls, Chain}
-use Rattle.http_server.specs.History.{History, IsDone}
+use Rattle.http_server.specs.History.{History, IsDone, IsQuiet, Rests}
+use Rattle.http_server.specs.declared.state.Config.{Config}
 use Rattle.std.specs.declared.io.ErrorKind.{ErrorKind}
 use Rattle.std.specs.declared.io.ErrorKind.TheVariants.{WouldBlock, Interrupted}
 use Rattle.web_loop.specs.declared.client.Client.{Client}
 use Rattle.web_loop.specs.declared.turn.Step.{Step}
-use Rattle.web_loop.specs.declared.turn.Step.TheVariants.{Interrupted as InterruptedStep, Blocked, Closed}
+use Rattle.web_loop.specs.declared.turn.Step.TheVariants.{Interrupted as InterruptedStep, Moved, Blocked, Held, Closed}
 use Rattle.web_loop.specs.declared.turn.Turn.{Turn}
-use Rattle.web_loop.specs.declared.turn.Turn.TheVariants.{Waits, Closes}
+use Rattle.web_loop.specs.declared.turn.Turn.TheVariants.{Waits, Holds, Closes}
 
 -- what the reader gave is what the connection received
 abbrev pub Receives : History → History → Option (List ℕ) → Option (List ℕ) → Type 0
@@ -28,20 +29,23 @@ Sends old new writer grown =
 abbrev pub LeadsTo : {S : Type 0} → (S → Request (List ℕ) → Response → S → Type 0) → S → S → Type 0
 LeadsTo answers old new = (calls : List Call) × Chain answers old calls new
 
--- Nothing was received or sent.
-pub record IsStill (old new : History) : Type 0 where
-  pub received : new.received ≡ old.received
-  pub sent : new.sent ≡ old.sent
+-- What a step did to its connection, before and after which so many requests that wait were answered. It was quiet unless it moved,
+-- and then every whole request is answered as far as there is room. It reads only where nothing is pending.
+pub record StepEnds (config : Config) (step : Step) (old new : History) (before after : ℕ) : Type 0 where
+  pub quiet : step ≢ Moved → IsQuiet old new × Rests config new
+  pub done : IsDone new → (step ≡ Moved) ⊎ (step ≡ Closed)
+  pub held : step ≡ Held → after ≢ before
+  pub passed : step ≢ Held → (after ≡ before) ⊎ ((step ≡ Closed) × IsDone new)
+  pub reads : (new.received ≡ old.received) ⊎ (new.pending ≡ [])
 
--- A turn of a connection closes where that is done, and moved unless it was still.
-pub record EndsSo (turn : Turn) (old new : History) : Type 0 where
+-- What a turn did to its connection: it closes that where it is done, holds it where a request that waits was answered, and waits
+-- with every whole request answered as far as there is room. One that did not move was quiet.
+pub record TurnEnds (config : Config) (turn : Turn) (old new : History) (before after : ℕ) : Type 0 where
   pub done : IsDone new → turn ≡ Closes
-  pub still : turn ≡ Waits false → IsStill old new
-
--- A client that is done closes, unless its turn changed nothing; and it moved unless it was still.
-pub record EndsTurn {T : Type 0} (turn : Turn) (client after : Client T) : Type 0 where
-  pub done : IsDone (history after.connection) → (turn ≡ Closes) ⊎ (after.connection ≡ client.connection)
-  pub still : turn ≡ Waits false → IsStill (history client.connection) (history after.connection)
+  pub quiet : turn ≡ Waits false → IsQuiet old new
+  pub rests : (moved : Bool) → turn ≡ Waits moved → Rests config new
+  pub held : turn ≡ Holds → after ≢ before
+  pub passed : turn ≢ Holds → (after ≡ before) ⊎ ((turn ≡ Closes) × IsDone new)
 
 -- whether a client did something in its turn
 abbrev pub has_moved : Turn → Bool

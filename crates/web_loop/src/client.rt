@@ -1,9 +1,10 @@
 //! One client of the server.
-ghost use Rattle.std.specs.Prelude.{◌≡◌, ◌⊎◌, ◌<◌, true, false, None, IsNone, length};
+ghost use Rattle.std.specs.Prelude.{◌≡◌, ◌<◌, true, false, None, IsNone, length};
 ghost use Rattle.std.specs.Bool.{Decides};
 ghost use Rattle.http_server.specs.Connection.{history};
-ghost use Rattle.web_loop.specs.Turns.{EndsTurn, LeadsTo, Sends, TakesTurn};
-ghost use Rattle.web_loop.specs.Waiting.{is_late, HoldsAnew, IsFree, IsHeard, IsOnHold, IsPutOff, IsSlowed, StaysPutOff, NotesTurn};
+ghost use Rattle.web_loop.specs.Turns.{LeadsTo};
+ghost use Rattle.web_loop.specs.Round.{GoesOn, IsClientTurn};
+ghost use Rattle.web_loop.specs.Waiting.{is_late, HoldsAnew, IsHeard, IsOnHold, StaysPutOff};
 
 use crate::offenders::{Offenders, millis};
 use crate::service::LastingService;
@@ -167,16 +168,8 @@ impl<T: Read + Write + Drop> Client<T> {
         now: Instant,
     ) -> Turn
         ensures leads { LeadsTo S.answers service.old service.new }
-        ensures turn { TakesTurn S.answers T.remaining self.old self.new service.old service.new }
-        ensures held { IsOnHold S.stays looks now service.old self.old.held → IsPutOff self.old self.new service.old service.new }
-        ensures free { IsFree S.stays looks now self.old offenders.old service.old → HoldsAnew (S.wish service.new) now self.new.held }
-        ensures anew { IsFree S.stays looks now self.old offenders.old service.old → S.waits service.new ≡ S.waits service.old → self.new.held ≡ None }
-        ensures written { Sends (history self.old.connection) (history self.new.connection) (T.contents self.old.writer) (T.contents self.new.writer) }
-        ensures noted { NotesTurn S.offences now self.old service.old service.new offenders.old offenders.new }
-        ensures ends { EndsTurn result self.old self.new }
-        ensures silent { result ≡ Turn.Waits false → IsSlowed self.old now offenders.old ⊎ IsHeard now self.new }
-        ensures heard { result ≡ Turn.Waits false → IsFree S.stays looks now self.old offenders.old service.old
-            → S.offences service.new ≡ S.offences service.old → self.new.heard ≡ self.old.heard }
+        ensures turn { IsClientTurn S.answers S.stays S.wish S.waits S.offences T.remaining T.contents now looks result
+            self.old self.new service.old service.new offenders.old offenders.new }
     {
         if offenders.waits(self.address, now) {
             return Turn::Waits { moved: false };
@@ -188,7 +181,7 @@ impl<T: Read + Write + Drop> Client<T> {
         let before = service.offences();
         let turn = self.take_turn_now(service, now);
         let wrong = service.offences().saturating_sub(before);
-        if turn != (Turn::Waits { moved: false }) || wrong > 0 {
+        if turn.has_moved() || wrong > 0 {
             self.heard = now;
             offenders.note(self.address, wrong, now);
             return turn;
@@ -199,14 +192,9 @@ impl<T: Read + Write + Drop> Client<T> {
     /// Takes its turn, and puts the answer off that is to be.
     fn take_turn_now<S: LastingService>(&mut self, service: &mut S, now: Instant) -> Turn
         ensures leads { LeadsTo S.answers service.old service.new }
-        ensures turn { TakesTurn S.answers T.remaining self.old self.new service.old service.new }
-        ensures held { HoldsAnew (S.wish service.new) now self.new.held }
-        ensures anew { S.waits service.new ≡ S.waits service.old → self.new.held ≡ None }
-        ensures written { Sends (history self.old.connection) (history self.new.connection) (T.contents self.old.writer) (T.contents self.new.writer) }
-        ensures ends { EndsTurn result self.old self.new }
+        ensures turn { GoesOn S.answers S.stays S.wish S.waits S.offences T.remaining T.contents now result self.old self.new service.old service.new }
         ensures heard { self.new.heard ≡ self.old.heard }
     {
-        let before = service.waits();
         self.held = None;
         let turn = take_turn(
             &mut self.connection,
@@ -214,7 +202,7 @@ impl<T: Read + Write + Drop> Client<T> {
             &mut self.reader,
             &mut self.writer,
         );
-        if turn == Turn::Holds && service.waits() != before {
+        if turn == Turn::Holds {
             self.hold(service, now);
         }
         turn

@@ -5,7 +5,7 @@ ghost use Rattle.slab.specs.Slab.{get};
 ghost use Rattle.web_loop.specs.Connected.{released, AreLimited, Closes, IsPendingAt, KeepsLimits};
 ghost use Rattle.web_loop.specs.Room.{Admits, AdmitsNone};
 ghost use Rattle.web_loop.specs.Turns.{LeadsTo};
-ghost use Rattle.web_loop.specs.Round.{looks_at, HasTurn, TakesRound, TakesTurns, TurnAt};
+ghost use Rattle.web_loop.specs.Round.{looks_at, LeavesAfter, TakesRound, TurnsOfAll, StandsAfter};
 
 mod room;
 
@@ -25,6 +25,9 @@ use std::time::{Duration, Instant};
 /// The most clients at once.
 pub const MOST_CLIENTS: usize = 128;
 
+/// So many seconds after the last time all are looked at for what they wish, also where none did anything.
+const LONGEST_UNLOOKED: u64 = 1;
+
 /// The clients that are connected, at most 128, and the addresses from which offences came.
 #[derive(Drop)]
 pub struct Clients<T> {
@@ -40,7 +43,7 @@ pub struct Clients<T> {
     offenders: Offenders,
     /// Whether any of them did something in the last turns.
     moved: bool,
-    /// When each of them was last looked at for what it wishes.
+    /// When all of them were last looked at for what they wish.
     looked: Instant,
 }
 
@@ -52,6 +55,7 @@ impl<T: Read + Write + OpenStream + Drop> Clients<T> {
         ensures none { result.connected.slots ≡ [] }
         ensures limits { AreLimited config result.connected }
         ensures offenders { (result.offenders.known.items ≡ []) × (result.offenders.begun ≡ begun) }
+        ensures looked { (result.moved ≡ false) × (result.looked ≡ begun) }
     {
         Clients {
             alloc,
@@ -69,12 +73,12 @@ impl<T: Read + Write + OpenStream + Drop> Clients<T> {
         self.alloc
     }
 
-    /// Takes a new client from an address, in place of the one that has been silent the longest where there are 128. While two
-    /// addresses are connected neither has more than 64, of which the one that has been silent the longest gives way. The error
-    /// is the socket's, or that memory was refused, and then it is closed.
+    /// Takes a new client from an address. Where 128 are connected, the one that has been silent the longest gives way; where
+    /// another address is connected, so do those of this one above 63, and those of the other above 64. The error is the
+    /// socket's, or that memory was refused: then the stream is closed, and those that gave way are gone.
     pub fn admit(&mut self, stream: T, address: IpAddr, now: Instant) -> io::Result<()>
         ensures rest { self.new ≡ record self.old { connected = self.new.connected } }
-        ensures admitted { OnOk result (Admits address now self.old self.new) }
+        ensures admitted { OnOk result (Admits stream address now self.old self.new) }
         ensures err { OnErr result (AdmitsNone address self.old self.new) }
         ensures limits { KeepsLimits self.old self.new }
     {
@@ -147,15 +151,16 @@ impl<T: Read + Write + OpenStream + Drop> Clients<T> {
         ensures looks { result ≡ looks_at self.old now }
         ensures looked { self.new ≡ record self.old { looked = (if result then now else self.old.looked) } }
     {
-        let looks = self.moved || now.duration_since(self.looked) >= Duration::from_secs(1);
+        let looks = self.moved
+            || now.duration_since(self.looked) >= Duration::from_secs(LONGEST_UNLOOKED);
         if looks {
             self.looked = now;
         }
         looks
     }
 
-    /// A turn of each client whose address does not wait, and whether any of them read, wrote or closed. The service is called for
-    /// what these clients sent, and for nothing else.
+    /// Each client has its turn; the answer is whether any of them did something. The service is called for what these clients
+    /// sent, and for nothing else.
     pub fn take_turns<S: LastingService>(&mut self, service: &mut S, now: Instant) -> bool
         ensures leads { LeadsTo S.answers service.old service.new }
         ensures turns { TakesRound S.answers S.stays S.wish S.waits S.offences T.remaining T.contents now self.old self.new service.old service.new }
@@ -168,7 +173,7 @@ impl<T: Read + Write + OpenStream + Drop> Clients<T> {
         moved
     }
 
-    /// A turn of each client, of which those are looked at for what they wish that come after one that did something, or all.
+    /// A turn of each client. All are looked at for what they wish, or those behind one that did something.
     fn take_each_turn<S: LastingService>(
         &mut self,
         service: &mut S,
@@ -176,7 +181,7 @@ impl<T: Read + Write + OpenStream + Drop> Clients<T> {
         now: Instant,
     ) -> bool
         ensures leads { LeadsTo S.answers service.old service.new }
-        ensures turns { TakesTurns S.answers S.stays S.wish S.waits S.offences T.remaining T.contents now looks self.old self.new service.old service.new result }
+        ensures turns { TurnsOfAll S.answers S.stays S.wish S.waits S.offences T.remaining T.contents now looks self.old self.new service.old service.new result }
         ensures looked { self.new.looked ≡ self.old.looked }
         ensures limits { KeepsLimits self.old self.new }
     {
@@ -198,7 +203,7 @@ impl<T: Read + Write + OpenStream + Drop> Clients<T> {
         now: Instant,
     ) -> Turn
         ensures leads { LeadsTo S.answers service.old service.new }
-        ensures turn { HasTurn S.answers S.stays S.wish S.waits S.offences T.remaining T.contents now looks result
+        ensures turn { LeavesAfter S.answers S.stays S.wish S.waits S.offences T.remaining T.contents now looks result
             (get self.old.connected key) (get self.new.connected key) service.old service.new self.old.offenders self.new.offenders }
         ensures looked { self.new.looked ≡ self.old.looked }
         ensures others { (other : ℕ) → other ≢ key → get self.new.connected other ≡ get self.old.connected other }
@@ -229,7 +234,7 @@ fn turn_at<T: Read + Write + Drop, S: LastingService>(
     now: Instant,
 ) -> Turn
     ensures leads { LeadsTo S.answers service.old service.new }
-    ensures turn { TurnAt S.answers S.stays S.wish S.waits S.offences T.remaining T.contents now looks result
+    ensures turn { StandsAfter S.answers S.stays S.wish S.waits S.offences T.remaining T.contents now looks result
         (get connected.old key) (get connected.new key) service.old service.new offenders.old offenders.new }
     ensures others { (other : ℕ) → other ≢ key → get connected.new other ≡ get connected.old other }
 {

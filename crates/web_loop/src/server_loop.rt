@@ -1,5 +1,5 @@
 //! The server's loop.
-ghost use Rattle.std.specs.Prelude.{◌≡◌, ℕ, true, OnOk, OnErr};
+ghost use Rattle.std.specs.Prelude.{◌≡◌, ◌<◌, ℕ, true, OnOk, OnErr};
 ghost use Rattle.web_loop.specs.Connected.{AreLimited, KeepsLimits};
 ghost use Rattle.web_loop.specs.Turns.{LeadsTo};
 ghost use Rattle.web_loop.specs.Serving.{IsRound, LastRounds, LetsInSome, Rounds, Serves};
@@ -74,7 +74,7 @@ fn send_pending<N: Net + Clock, S: LastingService>(
     service: &mut S,
 ) -> io::Result<()>
     ensures leads { LeadsTo S.answers service.old service.new }
-    ensures rounds { (count : ℕ) × LastRounds S.lasts S.answers S.stays S.wish S.waits S.offences N.Stream.remaining N.Stream.contents count clients.old clients.new service.old service.new }
+    ensures rounds { (count : ℕ) × LastRounds S.lasts S.answers S.stays S.wish S.waits S.offences N.Stream.remaining N.Stream.contents count clients.old clients.new service.old service.new × OnOk result (0 < count) }
     ensures limits { KeepsLimits clients.old clients.new }
 {
     let begun = Instant::now(rt)?;
@@ -134,7 +134,7 @@ where
     requires limits { S.limits clients.old.config }
     requires limited { AreLimited clients.old.config clients.old.connected }
     ensures leads { LeadsTo S.answers service.old service.new }
-    ensures serves { Serves S.lasts S.answers S.stays S.wish S.waits S.offences N.Stream.remaining N.Stream.contents clients.old clients.new service.old service.new }
+    ensures serves { Serves S.lasts S.answers S.stays S.wish S.waits S.offences N.Stream.remaining N.Stream.contents result clients.old clients.new service.old service.new }
     ensures config { clients.new.config ≡ clients.old.config }
     ensures limited { AreLimited clients.new.config clients.new.connected }
 {

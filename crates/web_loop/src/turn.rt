@@ -2,9 +2,7 @@
 ghost use Rattle.std.specs.Prelude.{◌≡◌, ◌≢◌, ◌⊎◌, ◌<◌, true, length, if◌then◌else◌};
 ghost use Rattle.http_server.specs.Connection.{config_of, history};
 ghost use Rattle.http_server.specs.Exchange.{Calls};
-ghost use Rattle.http_server.specs.History.{IsDone};
-ghost use Rattle.web_loop.specs.Turns.{has_moved, step_of, EndsSo, IsStill, Receives, Sends};
-ghost use Rattle.web_loop.specs.Waiting.{StepHolds, TurnHolds};
+ghost use Rattle.web_loop.specs.Turns.{has_moved, step_of, Receives, Sends, StepEnds, TurnEnds};
 
 use crate::service::LastingService;
 use http_server::Connection;
@@ -77,6 +75,7 @@ fn write_once<W: Write>(connection: &mut Connection, writer: &mut W) -> Step
     ensures calls { (history connection.new).calls ≡ (history connection.old).calls }
     ensures moved { result ≡ Step.Moved → length (history connection.new).pending < length (history connection.old).pending }
     ensures still { result ≢ Step.Moved → history connection.new ≡ history connection.old }
+    ensures unheld { result ≢ Step.Held }
     ensures config { config_of connection.new ≡ config_of connection.old }
 {
     match connection.write_to(writer) {
@@ -94,6 +93,8 @@ fn read_once<R: Read>(connection: &mut Connection, reader: &mut R) -> Step
     ensures moved { result ≡ Step.Moved → (length (history connection.old).received < length (history connection.new).received)
         ⊎ ((history connection.new).ended ≡ true) }
     ensures still { result ≢ Step.Moved → history connection.new ≡ history connection.old }
+    ensures unheld { result ≢ Step.Held }
+    ensures pending { (history connection.new).pending ≡ (history connection.old).pending }
     ensures config { config_of connection.new ≡ config_of connection.old }
 {
     match connection.read_from(reader) {
@@ -113,9 +114,7 @@ fn take_step<S: LastingService, R: Read, W: Write>(
     ensures read { Receives (history connection.old) (history connection.new) (R.remaining reader.old) (R.remaining reader.new) }
     ensures written { Sends (history connection.old) (history connection.new) (W.contents writer.old) (W.contents writer.new) }
     ensures calls { Calls S.answers service.old service.new (history connection.old).calls (history connection.new).calls }
-    ensures holds { StepHolds result (S.waits service.old) (S.waits service.new) }
-    ensures done { IsDone (history connection.new) → (result ≡ Step.Moved) ⊎ (result ≡ Step.Closed) }
-    ensures still { result ≡ Step.Blocked → IsStill (history connection.old) (history connection.new) }
+    ensures ends { StepEnds (config_of connection.new) result (history connection.old) (history connection.new) (S.waits service.old) (S.waits service.new) }
     ensures config { config_of connection.new ≡ config_of connection.old }
 {
     let before = service.waits();
@@ -156,8 +155,7 @@ pub fn take_turn<S: LastingService, R: Read, W: Write>(
     ensures read { Receives (history connection.old) (history connection.new) (R.remaining reader.old) (R.remaining reader.new) }
     ensures written { Sends (history connection.old) (history connection.new) (W.contents writer.old) (W.contents writer.new) }
     ensures calls { Calls S.answers service.old service.new (history connection.old).calls (history connection.new).calls }
-    ensures holds { TurnHolds result (S.waits service.old) (S.waits service.new) }
-    ensures ends { EndsSo result (history connection.old) (history connection.new) }
+    ensures ends { TurnEnds (config_of connection.new) result (history connection.old) (history connection.new) (S.waits service.old) (S.waits service.new) }
     ensures config { config_of connection.new ≡ config_of connection.old }
 {
     let before = service.offences();

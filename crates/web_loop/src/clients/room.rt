@@ -34,7 +34,7 @@ impl<T: Read + Write + OpenStream + Drop> Clients<T> {
         }
     }
 
-    /// Another address that is connected. Where there are several, each has its half at most.
+    /// Another address that is connected. One is enough: of several none has more than its half.
     fn other_than(&self, address: IpAddr) -> Option<IpAddr>
         ensures some { IfSome result (λ other. HasOther address other self.now.connected) }
         ensures none { IfNone result (AreAllFrom address self.now.connected self.now.connected.capacity) }
@@ -48,7 +48,7 @@ impl<T: Read + Write + OpenStream + Drop> Clients<T> {
         None
     }
 
-    /// Closes connections of an address, those first that have been silent the longest, until so many are left.
+    /// Closes connections of an address, those first that have been silent the longest, until so many are left at most.
     fn keep_at_most(&mut self, most: usize, address: IpAddr)
         ensures keeps { KeepsAtMost most address self.old self.new }
         ensures closes { OnlyCloses self.old self.new }

@@ -1,6 +1,7 @@
-use Rattle.std.proofs.Common.{refl}
+use Rattle.std.proofs.Common.{◌<◌, refl}
 use Rattle.web_loop.proofs.Limits.{KeepsLimits-then}
 use Rattle.web_loop.proofs.Leading.{LeadsTo-then}
+use Rattle.web_loop.proofs.Serves.{on_ok-of_err}
 use Rattle.web_loop.proofs.server_loop.serve_minutes.Goals as goal
 
 pub returns : goal.returns
@@ -15,6 +16,7 @@ returns g c =
         between = c.take_rounds_for.new.service;
         served = c.take_rounds_for.ensures.rounds.1;
         sent = c.send_pending.ensures.rounds.1;
+        ends = c.send_pending.ensures.rounds.2;
       };
       config = kept.config;
       limited = kept.each c.requires.limited;
@@ -28,4 +30,5 @@ returns-in_err-take_rounds_for-clause-serves g c = record {
   between = c.take_rounds_for.new.service;
   served = c.take_rounds_for.ensures.rounds.1;
   sent = (refl, refl);
+  ends = on_ok-of_err (0 < 0) c.from_residual-in_err-take_rounds_for.result c.from_residual-in_err-take_rounds_for.ensures.0;
 }

@@ -13,18 +13,18 @@ returns-clause-admitted g c =
       key = c.insert_reserved.result;
       client = c.new.result;
       vacant = sym (kept c.insert_reserved.result) ∙ c.insert_reserved.ensures.was_vacant;
-      stands = c.insert_reserved.ensures.updates.changed;
+      comes = record { changed = c.insert_reserved.ensures.updates.changed; others = λ other differs. c.insert_reserved.ensures.updates.others other differs ∙ kept other };
+      reads = c.new.ensures.handles.0;
       limits = ap config_of c.new.ensures.connection ∙ c.new-connection.ensures.config ∙ ap (λ clients. clients.config) c.make_room.ensures.closes.rest;
       anew = ap history c.new.ensures.connection ∙ c.new-connection.ensures.history;
       comes_from = c.new.ensures.address;
       heard = c.new.ensures.heard;
       unheld = c.new.ensures.held;
-      others = λ other differs. c.insert_reserved.ensures.updates.others other differs ∙ kept other;
     }
 
 pub returns-clause-limits : goal.returns-clause-limits
 returns-clause-limits g c =
-    KeepsLimits-admits c.args.address c.args.now _ _ (ap (λ clients. clients.config) c.make_room.ensures.closes.rest) (returns-clause-admitted g c)
+    KeepsLimits-admits c.args.stream c.args.address c.args.now _ _ (ap (λ clients. clients.config) c.make_room.ensures.closes.rest) (returns-clause-admitted g c)
 
 pub returns-in_err-reserve-clause-limits : goal.returns-in_err-reserve-clause-limits
 returns-in_err-reserve-clause-limits g c =

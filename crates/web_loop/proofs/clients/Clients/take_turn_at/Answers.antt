@@ -13,13 +13,13 @@ returns-in-Closes-clause-limits g c =
       config = same;
       each = λ limited other client found.
           elim (cases_eq other c.args.key) [
-            | inl at ↦ grind (arith, at, found, c.close.ensures.gone)
+            | inl at ↦ grind (arith, at, found, c.close.ensures.removes.changed)
             | inr differs ↦
-                limited other client (sym (c.close.ensures.others other differs ∙ c.turn_at-turn.ensures.others other differs) ∙ found) ∙ sym same
+                limited other client (sym (c.close.ensures.removes.others other differs ∙ c.turn_at-turn.ensures.others other differs) ∙ found) ∙ sym same
           ];
     }
 
 pub returns-in-Closes-clause-turn : goal.returns-in-Closes-clause-turn
 returns-in-Closes-clause-turn g c =
     let offenders = ap (λ (clients : Clients g.row.T.Denot). clients.offenders) c.close.ensures.rest in
-    (get c.turn_at-turn.new.connected c.args.key, rw offenders c.turn_at-turn.ensures.turn, c.close.ensures.gone ∙ sym (ap (λ (turn : Turn). left_by turn (get c.turn_at-turn.new.connected c.args.key)) c.in-Closes.is))
+    (get c.turn_at-turn.new.connected c.args.key, rw offenders c.turn_at-turn.ensures.turn, c.close.ensures.removes.changed ∙ sym (ap (λ (turn : Turn). left_by turn (get c.turn_at-turn.new.connected c.args.key)) c.in-Closes.is))
