@@ -78,7 +78,7 @@ SharesRoom {T} address old new =
     ((other : IpAddr) × (mid : Clients T) × HasOther address other old.connected × KeepsAtMost 63 address old mid × KeepsAtMost 64 other mid new)
     ⊎ (AreAllFrom address old.connected old.connected.capacity × (new ≡ old))
 
--- Room is made for one more client from an address, and no more than that.
+-- Of two addresses each is left its half; then, where all places are taken, one client gives way.
 pub record MakesRoom {T : Type 0} (address : IpAddr) (old new : Clients T) : Type 0 where
   pub closes : OnlyCloses old new
   pub shared : Clients T
@@ -101,6 +101,7 @@ pub record Admits {T : Type 0} (stream : T) (address : IpAddr) (now : Instant) (
   pub comes_from : client.address ≡ address
   pub heard : client.heard ≡ now
   pub unheld : client.held ≡ None
+  pub rest : new ≡ record made { connected = new.connected }
 
 -- Nobody came: nothing changed, or room was made and is left.
 abbrev pub AdmitsNone : {T : Type 0} → IpAddr → Clients T → Clients T → Type 0

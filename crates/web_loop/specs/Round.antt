@@ -31,7 +31,7 @@ module _ {S T : Type 0} (answers : S → Request (List ℕ) → Response → S �
   pub record GoesOn (turn : Turn) (client after : Client T) (old new : S) : Type 0 where
     pub takes : TakesTurn answers remaining client after old new
     pub written : Sends (history client.connection) (history after.connection) (contents client.writer) (contents after.writer)
-    pub ends : TurnEnds (config_of after.connection) turn (history client.connection) (history after.connection) (waits old) (waits new)
+    pub ends : TurnEnds answers waits (config_of client.connection) turn old new (history client.connection) (history after.connection)
     pub held : HoldsAnew (wish new) now after.held
     pub anew : waits new ≡ waits old → after.held ≡ None
 
@@ -43,7 +43,7 @@ module _ {S T : Type 0} (answers : S → Request (List ℕ) → Response → S �
     pub begun : known.begun ≡ before.begun
     pub noted : IsNoted (address_number client.address) (offences new - offences old) (millis before.begun now) before.known.items known.known.items
 
-  -- It did nothing: it closes once it has been silent for 20 seconds.
+  -- It did nothing, and no offence was answered: it closes once it has been silent for 20 seconds.
   pub record IsAtRest (made turn : Turn) (client after : Client T) (old new : S) (before known : Offenders) : Type 0 where
     pub rests : has_moved made ≡ false
     pub none : offences new - offences old ≡ 0
@@ -85,7 +85,7 @@ module _ {S T : Type 0} (answers : S → Request (List ℕ) → Response → S �
   TurnsOfAll looks clients after old new moved =
       TurnsBelow looks (get clients.connected) (get after.connected) clients.connected.capacity old new clients.offenders after.offenders moved
 
-  -- Each client had its turn, and it is kept whether any of them did something and when each was last looked at.
+  -- Each client had its turn, and it is kept whether any of them did something and when all were last looked at.
   pub record TakesRound (clients after : Clients T) (old new : S) : Type 0 where
     pub turns : TurnsOfAll (looks_at clients now) clients after old new after.moved
     pub looked : after.looked ≡ (if looks_at clients now then now else clients.looked)

@@ -11,13 +11,13 @@ use Rattle.web_loop.specs.Connected.{released}
 use Rattle.web_loop.specs.Room.{Admits, AdmitsNone}
 use Rattle.web_loop.specs.Round.{TakesRound}
 
--- so many came, one after another, or found no room
+-- so many came, one after another, or were not let in: their socket failed, or memory was refused
 abbrev pub LetsIn : {T : Type 0} → Instant → ℕ → Clients T → Clients T → Type 0
 LetsIn now zero old new = new ≡ old
 LetsIn {T} now (suc count) old new =
     (mid : Clients T) × (stream : T) × (address : IpAddr) × LetsIn now count old mid × (Admits stream address now mid new ⊎ AdmitsNone address mid new)
 
--- Some who waited came, or found no room: 128 at most.
+-- So many came, or were not let in: 128 at most.
 pub record LetsInSome {T : Type 0} (now : Instant) (old new : Clients T) : Type 0 where
   pub count : ℕ
   pub few : count ≤ 128
@@ -43,19 +43,21 @@ module _ {S T : Type 0} (lasts : S → Bool) (answers : S → Request (List ℕ)
   Rounds zero clients after old new = (after ≡ clients) × (new ≡ old)
   Rounds (suc count) clients after old new = (mid : Clients T) × (between : S) × Rounds count clients mid old between × IsRound mid after between new
 
-  -- A round at the end: nobody is let in, and no answer is put off.
+  -- A round at the end: nobody is let in, and what is put off before it or in it is so no longer.
   pub record IsLastRound (clients after : Clients T) (old new : S) : Type 0 where
     pub now : Instant
     pub free : Clients T
+    pub turned : Clients T
     pub releases : Releases clients free
-    pub took : TakesRound answers stays wish waits offences remaining contents now free after old new
+    pub took : TakesRound answers stays wish waits offences remaining contents now free turned old new
+    pub frees : Releases turned after
 
   -- so many, one after another
   abbrev pub LastRounds : ℕ → Clients T → Clients T → S → S → Type 0
   LastRounds zero clients after old new = (after ≡ clients) × (new ≡ old)
   LastRounds (suc count) clients after old new = (mid : Clients T) × (between : S) × LastRounds count clients mid old between × IsLastRound mid after between new
 
-  -- A server took rounds, and then those that send what is pending, at least one unless the clock failed.
+  -- A server took rounds, and then those at the end, at least one unless the clock failed.
   pub record Serves (result : Result (Unit {0}) Error) (clients after : Clients T) (old new : S) : Type 0 where
     pub rounds : ℕ
     pub last : ℕ

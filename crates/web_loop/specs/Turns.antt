@@ -7,6 +7,7 @@ use Rattle.http_server.specs.Connection.{config_of, history}
 use Rattle.http_server.specs.Exchange.{Call, Calls, Chain}
 use Rattle.http_server.specs.History.{History, IsDone, IsQuiet, Rests}
 use Rattle.http_server.specs.declared.state.Config.{Config}
+use Rattle.http_server.specs.declared.connection.Connection.{Connection}
 use Rattle.std.specs.declared.io.ErrorKind.{ErrorKind}
 use Rattle.std.specs.declared.io.ErrorKind.TheVariants.{WouldBlock, Interrupted}
 use Rattle.web_loop.specs.declared.client.Client.{Client}
@@ -29,23 +30,46 @@ Sends old new writer grown =
 abbrev pub LeadsTo : {S : Type 0} → (S → Request (List ℕ) → Response → S → Type 0) → S → S → Type 0
 LeadsTo answers old new = (calls : List Call) × Chain answers old calls new
 
--- What a step did to its connection, before and after which so many requests that wait were answered. It was quiet unless it moved,
--- and then every whole request is answered as far as there is room. It reads only where nothing is pending.
-pub record StepEnds (config : Config) (step : Step) (old new : History) (before after : ℕ) : Type 0 where
+-- What was received is answered first, as far as there is room, while nothing is received or sent.
+pub record AnswersFirst {S : Type 0} (answers : S → Request (List ℕ) → Response → S → Type 0) (config : Config) (before after : S) (old new : History) : Type 0 where
+  pub mid : Connection
+  pub between : S
+  pub limits : config_of mid ≡ config
+  pub quiet : IsQuiet old (history mid)
+  pub rests : Rests config (history mid)
+  pub first : Calls answers before between old.calls (history mid).calls
+  pub behind : Calls answers between after (history mid).calls new.calls
+
+-- A request that waits was answered, and since then nothing is sent.
+pub record HoldsBack {S : Type 0} (answers : S → Request (List ℕ) → Response → S → Type 0) (waits : S → ℕ) (config : Config) (before after : S) (new : History) : Type 0 where
+  pub waited : waits after ≢ waits before
+  pub mid : Connection
+  pub between : S
+  pub limits : config_of mid ≡ config
+  pub unwaited : waits between ≡ waits before
+  pub calls : Calls answers between after (history mid).calls new.calls
+  pub unsent : new.sent ≡ (history mid).sent
+
+-- What a step did to its connection. Unless it moved it was quiet, and every whole request is answered as far as there is room. It
+-- reads only where nothing is pending.
+pub record StepEnds {S : Type 0} (answers : S → Request (List ℕ) → Response → S → Type 0) (waits : S → ℕ) (config : Config) (step : Step) (before after : S) (old new : History) : Type 0 where
+  pub first : AnswersFirst answers config before after old new
   pub quiet : step ≢ Moved → IsQuiet old new × Rests config new
   pub done : IsDone new → (step ≡ Moved) ⊎ (step ≡ Closed)
-  pub held : step ≡ Held → after ≢ before
-  pub passed : step ≢ Held → (after ≡ before) ⊎ ((step ≡ Closed) × IsDone new)
+  pub held : step ≡ Held → waits after ≢ waits before
+  pub passed : step ≢ Held → (waits after ≡ waits before) ⊎ ((step ≡ Closed) × IsDone new)
   pub reads : (new.received ≡ old.received) ⊎ (new.pending ≡ [])
 
 -- What a turn did to its connection: it closes that where it is done, holds it where a request that waits was answered, and waits
 -- with every whole request answered as far as there is room. One that did not move was quiet.
-pub record TurnEnds (config : Config) (turn : Turn) (old new : History) (before after : ℕ) : Type 0 where
+pub record TurnEnds {S : Type 0} (answers : S → Request (List ℕ) → Response → S → Type 0) (waits : S → ℕ) (config : Config) (turn : Turn) (before after : S) (old new : History) : Type 0 where
+  pub first : AnswersFirst answers config before after old new
   pub done : IsDone new → turn ≡ Closes
   pub quiet : turn ≡ Waits false → IsQuiet old new
   pub rests : (moved : Bool) → turn ≡ Waits moved → Rests config new
-  pub held : turn ≡ Holds → after ≢ before
-  pub passed : turn ≢ Holds → (after ≡ before) ⊎ ((turn ≡ Closes) × IsDone new)
+  pub closes : turn ≡ Closes → IsDone new ⊎ Rests config new
+  pub held : turn ≡ Holds → HoldsBack answers waits config before after new
+  pub passed : turn ≢ Holds → (waits after ≡ waits before) ⊎ ((turn ≡ Closes) × IsDone new)
 
 -- whether a client did something in its turn
 abbrev pub has_moved : Turn → Bool

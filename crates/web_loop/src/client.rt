@@ -18,7 +18,7 @@ use std::time::{Duration, Instant};
 /// After so many seconds of silence a connection is closed.
 const PATIENCE: u64 = 20;
 
-/// For so many milliseconds an answer is put off at most.
+/// For so many milliseconds an answer is put off at most, and longer only while its address waits.
 const LONGEST_HOLD: u64 = 15_000;
 
 /// An answer that is put off.
@@ -156,7 +156,7 @@ impl<T: Read + Write + Drop> Client<T> {
     }
 
     /// Takes its turn, unless its address waits or its answer is put off. It closes once it has been silent for 20 seconds, but not
-    /// while its address waits. Each offence that is answered counts at its address, also where nothing could be sent yet.
+    /// while its address waits or its answer is put off. Each offence that is answered counts at its address, also where nothing could be sent yet.
     ///
     /// The answer to a request that waits is put off until 15 seconds have passed, or what it wishes for has come and it `looks`,
     /// which it need not where nothing has changed since it did. While it is put off nothing is read, answered or sent.

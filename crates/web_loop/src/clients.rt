@@ -100,7 +100,7 @@ impl<T: Read + Write + OpenStream + Drop> Clients<T> {
         self.connected.try_remove(key);
     }
 
-    /// Whether an answer to any of them is not sent yet.
+    /// Whether an answer to any of them is to be sent and not sent yet. One that is put off is not.
     pub fn has_pending(&self) -> bool
         ensures some { result ≡ true → (key : ℕ) × IsPendingAt (get self.now.connected key) }
         ensures none { result ≡ false → (key : ℕ) → key < self.now.connected.capacity → ¬ (IsPendingAt (get self.now.connected key)) }
@@ -113,7 +113,7 @@ impl<T: Read + Write + OpenStream + Drop> Clients<T> {
         false
     }
 
-    /// Whether an answer to the client under a key, if there is one, is not sent yet.
+    /// The same of the client under a key, if there is one.
     fn is_pending_at(&self, key: usize) -> bool
         ensures { Decides result (IsPendingAt (get self.now.connected key)) }
     {

@@ -18,7 +18,7 @@ const LAST_ROUNDS: u64 = 100_000;
 /// How long they take at most, in seconds.
 const LAST_SECONDS: u64 = 1;
 
-/// Takes the connections that wait at the listener.
+/// Takes connections that wait at the listener, 128 at most.
 fn admit_waiting<N: Net>(
     listener: &N::Listener,
     readiness: &Readiness,
@@ -66,7 +66,7 @@ where
     Ok(())
 }
 
-/// Gives clients their turns until nothing is pending, for about a second at most. No answer is put off any longer.
+/// Gives clients their turns until nothing is pending, for about a second at most. What is put off is so no longer.
 fn send_pending<N: Net + Clock, S: LastingService>(
     rt: &N,
     readiness: &mut Readiness,
@@ -82,6 +82,7 @@ fn send_pending<N: Net + Clock, S: LastingService>(
         let now = Instant::now(rt)?;
         clients.release();
         let moved = clients.take_turns(service, now);
+        clients.release();
         let is_late = now.duration_since(begun) >= Duration::from_secs(LAST_SECONDS);
         if is_late || !clients.has_pending() {
             return Ok(());
@@ -119,7 +120,7 @@ where
 }
 
 /// Serves the connections of a listener that does not block for so many minutes, or as long as the service lasts, and then
-/// sends what is pending. The clients have the limits that the service asks for. Where nobody asks for anything it sleeps. The
+/// sends what is pending, for about a second at most. The clients have the limits that the service asks for. Where nobody asks for anything it sleeps. The
 /// error is that the clock cannot be read.
 pub fn serve_minutes<N: Net + Clock, S: LastingService>(
     rt: &N,

@@ -10,7 +10,7 @@ use http_server::Service;
 /// that it came from, as a guess at a key; what counts as one, and how many a request has, the service says.
 ///
 /// A request may ask to wait: then its answer, which the service gives at once as any other, is put off until what the request
-/// wishes for has come.
+/// wishes for has come, or 15 seconds have passed.
 pub trait LastingService: Service {
     // whether it still serves
     ghost lasts: { Self → Bool };
@@ -30,7 +30,7 @@ pub trait LastingService: Service {
     // connections that have these limits may be answered by it
     ghost limits: { ConfigType → Type 0 };
 
-    /// Whether it still serves. Once it does not, nobody is let in, and clients have turns until what is pending is sent.
+    /// Whether it still serves. Once it does not, nobody is let in, and clients have turns until what is pending is sent, for about a second.
     fn lasts(&self) -> bool
         ensures { result ≡ lasts self.now };
 

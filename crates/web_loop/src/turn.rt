@@ -23,12 +23,12 @@ pub enum Turn {
     GoesOn,
     /// It answered a request that waits, of which nothing is sent yet.
     Holds,
-    /// It is done, or its peer is gone.
+    /// It is done, its peer is gone, or it has been silent for too long.
     Closes,
 }
 
 impl Turn {
-    /// Whether the connection read, wrote or closed, or has more to do.
+    /// Whether the connection read, wrote, was interrupted, holds or closes, or has more to do.
     pub fn has_moved(self) -> bool
         ensures { result ≡ has_moved self }
     {
@@ -114,7 +114,7 @@ fn take_step<S: LastingService, R: Read, W: Write>(
     ensures read { Receives (history connection.old) (history connection.new) (R.remaining reader.old) (R.remaining reader.new) }
     ensures written { Sends (history connection.old) (history connection.new) (W.contents writer.old) (W.contents writer.new) }
     ensures calls { Calls S.answers service.old service.new (history connection.old).calls (history connection.new).calls }
-    ensures ends { StepEnds (config_of connection.new) result (history connection.old) (history connection.new) (S.waits service.old) (S.waits service.new) }
+    ensures ends { StepEnds S.answers S.waits (config_of connection.old) result service.old service.new (history connection.old) (history connection.new) }
     ensures config { config_of connection.new ≡ config_of connection.old }
 {
     let before = service.waits();
@@ -155,7 +155,7 @@ pub fn take_turn<S: LastingService, R: Read, W: Write>(
     ensures read { Receives (history connection.old) (history connection.new) (R.remaining reader.old) (R.remaining reader.new) }
     ensures written { Sends (history connection.old) (history connection.new) (W.contents writer.old) (W.contents writer.new) }
     ensures calls { Calls S.answers service.old service.new (history connection.old).calls (history connection.new).calls }
-    ensures ends { TurnEnds (config_of connection.new) result (history connection.old) (history connection.new) (S.waits service.old) (S.waits service.new) }
+    ensures ends { TurnEnds S.answers S.waits (config_of connection.old) result service.old service.new (history connection.old) (history connection.new) }
     ensures config { config_of connection.new ≡ config_of connection.old }
 {
     let before = service.offences();

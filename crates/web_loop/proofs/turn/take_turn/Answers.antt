@@ -1,62 +1,77 @@
-use Rattle.std.proofs.Common.{◌≡◌, ◌⊎◌, inl, inr, arith, ℕ, Bool, true, false, nat_lt, if◌then◌else◌, refl, ap, sym, subst, ◌∙◌}
+use Rattle.std.proofs.Common.{◌≡◌, ◌⊎◌, inl, inr, arith, ℕ, List, Bool, ◌↔◌, IsTrue, true, false, nat_lt, if◌then◌else◌, refl, ap, sym, subst, ◌∙◌}
 use Rattle.std.proofs.lemmas.Bool.Decides.{nat_tests}
 use Rattle.http_server.specs.Connection.{config_of, history}
 use Rattle.http_server.specs.declared.connection.Connection.{Connection}
 use Rattle.http_server.specs.History.{History, IsDone, IsQuiet}
+use Rattle.http.specs.declared.request.Request.{Request}
+use Rattle.http_server.specs.declared.response.Response.{Response}
 use Rattle.http_server.specs.declared.state.Config.{Config}
 use Rattle.http_server.proofs.StreamLemmas.{Calls-then}
 use Rattle.web_loop.specs.declared.turn.Step.{Step}
 use Rattle.web_loop.specs.declared.turn.Step.TheVariants.{Moved, Interrupted}
 use Rattle.web_loop.specs.declared.turn.Turn.{Turn}
 use Rattle.web_loop.specs.declared.turn.Turn.TheVariants.{GoesOn, Closes}
-use Rattle.web_loop.specs.Turns.{has_moved, StepEnds, TurnEnds}
-use Rattle.web_loop.proofs.TurnLemmas.{Receives-then, Sends-then}
+use Rattle.web_loop.specs.Turns.{has_moved, AnswersFirst, StepEnds, TurnEnds}
+use Rattle.web_loop.proofs.TurnLemmas.{AnswersFirst-step, Receives-then, Sends-then}
 use Rattle.web_loop.proofs.turn.take_turn.Goals as goal
 
--- a turn that is cut short
-cut_short_ends : (config : Config) (done : Bool) (turn : Turn) (old new : History) (before after : ℕ) → turn ≡ (if done then Closes else GoesOn) → (IsDone new → done ≡ true) → after ≡ before
-    → TurnEnds config turn old new before after
-cut_short_ends config true turn old new before after is ends same = record {
-  done = λ _. is;
-  quiet = λ waits. cc;
-  rests = λ moved waits. cc;
-  held = λ holds. cc;
-  passed = λ _. inl same;
-}
-cut_short_ends config false turn old new before after is ends same = record {
-  done = λ d. let never = ends d in cc;
-  quiet = λ waits. cc;
-  rests = λ moved waits. cc;
-  held = λ holds. cc;
-  passed = λ _. inl same;
-}
+module _ {S : Type 0} (answers : S → Request (List ℕ) → Response → S → Type 0) (waits : S → ℕ) (config : Config) (before after : S) (old new : History) where
+  -- a turn that is cut short
+  cut_short_ends : (done : Bool) (turn : Turn) → turn ≡ (if done then Closes else GoesOn) → IsTrue done ↔ IsDone new → waits after ≡ waits before → AnswersFirst answers config before after old new
+      → TurnEnds answers waits config turn before after old new
+  cut_short_ends true turn is ends same first = record {
+    first = first;
+    done = λ _. is;
+    quiet = λ waits. cc;
+    rests = λ moved waits. cc;
+    closes = λ _. inl (ends.0 refl);
+    held = λ holds. cc;
+    passed = λ _. inl same;
+  }
+  cut_short_ends false turn is ends same first = record {
+    first = first;
+    done = λ d. let never = ends.1 d in cc;
+    quiet = λ waits. cc;
+    rests = λ moved waits. cc;
+    closes = λ closes. cc;
+    held = λ holds. cc;
+    passed = λ _. inl same;
+  }
 
--- at a step behind which the turn goes on no request that waits was answered
-goes_on : (config : Config) (step : Step) (old new : History) (before after : ℕ) → (step ≡ Moved) ⊎ (step ≡ Interrupted) → StepEnds config step old new before after → after ≡ before
-goes_on config step old new before after is ends =
-    elim (ends.passed (λ held. elim is [ inl moved ↦ cc | inr interrupted ↦ cc ])) [
-      | inl same ↦ same
-      | inr closed ↦ absurd (let closes = closed.0 in elim is [ inl moved ↦ cc | inr interrupted ↦ cc ])
-    ]
+  -- at a step behind which the turn goes on no request that waits was answered
+  goes_on : (step : Step) → (step ≡ Moved) ⊎ (step ≡ Interrupted) → StepEnds answers waits config step before after old new → waits after ≡ waits before
+  goes_on step is ends =
+      elim (ends.passed (λ held. elim is [ inl moved ↦ cc | inr interrupted ↦ cc ])) [
+        | inl same ↦ same
+        | inr closed ↦ absurd (let closes = closed.0 in elim is [ inl moved ↦ cc | inr interrupted ↦ cc ])
+      ]
 
 pub returns-in-Blocked : goal.returns-in-Blocked
 returns-in-Blocked g c =
     let old = history c.args.connection.now in
     let here = history c.loop-steps.connection in
     let new = history c.take_step.new.connection in
+    let answers = g.S.Service.answers in
+    let waits = g.S.LastingService.waits in
+    let before = c.loop-steps.invariant in
+    let config = before.4 in
+    let ends = subst (λ limits. StepEnds answers waits limits c.take_step.result c.loop-steps.service c.take_step.new.service here new) config c.take_step.ensures.ends in
+    let first = AnswersFirst-step answers (config_of c.args.connection.now) c.loop-steps.steps c.args.connection.now c.loop-steps.connection c.args.service.now c.loop-steps.service c.take_step.new.service
+    new before.5 before.6 before.7 ends.first c.take_step.ensures.calls in
     let blocked = c.in-Blocked.is in
-    let ends = c.take_step.ensures.ends in
     record {
       read = Receives-then old here new (g.R.Read.remaining c.args.reader.now) (g.R.Read.remaining c.loop-steps.reader) (g.R.Read.remaining c.take_step.new.reader) c.loop-steps.invariant.0 c.in-Blocked.ensures.read;
       written = Sends-then old here new (g.W.Write.contents c.args.writer.now) (g.W.Write.contents c.loop-steps.writer) (g.W.Write.contents c.take_step.new.writer) c.loop-steps.invariant.1 c.in-Blocked.ensures.written;
       calls = Calls-then g.S.Service.answers _ _ _ _ _ _ c.loop-steps.invariant.2 c.in-Blocked.ensures.calls;
       ends = record {
+        first = first;
         done = λ done. absurd (elim (ends.done done) [ inl moved ↦ cc | inr closed ↦ cc ]);
         quiet = λ is.
             let waits : nat_lt 0 c.loop-steps.steps ≡ false = ap (λ (turn : Turn). has_moved turn) is in
             let first : c.loop-steps.steps ≡ 0 = grind (arith, nat_tests, waits) in
             subst (λ (before : Connection). IsQuiet (history before) new) (c.loop-steps.invariant.5 first) (ends.quiet (λ moved. cc)).0;
         rests = λ moved is. (ends.quiet (λ m. cc)).1;
+        closes = λ is. cc;
         held = λ is. cc;
         passed = λ _.
             elim (ends.passed (λ held. cc)) [
@@ -72,16 +87,33 @@ returns-in-Held g c =
     let old = history c.args.connection.now in
     let here = history c.loop-steps.connection in
     let new = history c.take_step.new.connection in
+    let answers = g.S.Service.answers in
+    let waits = g.S.LastingService.waits in
+    let before = c.loop-steps.invariant in
+    let config = before.4 in
+    let ends = subst (λ limits. StepEnds answers waits limits c.take_step.result c.loop-steps.service c.take_step.new.service here new) config c.take_step.ensures.ends in
+    let first = AnswersFirst-step answers (config_of c.args.connection.now) c.loop-steps.steps c.args.connection.now c.loop-steps.connection c.args.service.now c.loop-steps.service c.take_step.new.service
+    new before.5 before.6 before.7 ends.first c.take_step.ensures.calls in
     let held = c.in-Held.is in
     record {
       read = Receives-then old here new (g.R.Read.remaining c.args.reader.now) (g.R.Read.remaining c.loop-steps.reader) (g.R.Read.remaining c.take_step.new.reader) c.loop-steps.invariant.0 c.in-Held.ensures.read;
       written = Sends-then old here new (g.W.Write.contents c.args.writer.now) (g.W.Write.contents c.loop-steps.writer) (g.W.Write.contents c.take_step.new.writer) c.loop-steps.invariant.1 c.in-Held.ensures.written;
       calls = Calls-then g.S.Service.answers _ _ _ _ _ _ c.loop-steps.invariant.2 c.in-Held.ensures.calls;
       ends = record {
-        done = λ done. absurd (elim (c.take_step.ensures.ends.done done) [ inl moved ↦ cc | inr closed ↦ cc ]);
+        first = first;
+        done = λ done. absurd (elim (ends.done done) [ inl moved ↦ cc | inr closed ↦ cc ]);
         quiet = λ is. cc;
         rests = λ moved is. cc;
-        held = λ _ same. c.take_step.ensures.ends.held held (same ∙ sym c.loop-steps.invariant.3);
+        closes = λ is. cc;
+        held = λ _. record {
+          waited = λ same. ends.held held (same ∙ sym before.3);
+          mid = c.loop-steps.connection;
+          between = c.loop-steps.service;
+          limits = config;
+          unwaited = before.3;
+          calls = c.take_step.ensures.calls;
+          unsent = (ends.quiet (λ moved. cc)).0.2;
+        };
         passed = λ unheld. absurd (unheld refl);
       };
       config = c.in-Held.ensures.config ∙ c.loop-steps.invariant.4;
@@ -92,19 +124,28 @@ returns-in-Closed g c =
     let old = history c.args.connection.now in
     let here = history c.loop-steps.connection in
     let new = history c.take_step.new.connection in
+    let answers = g.S.Service.answers in
+    let waits = g.S.LastingService.waits in
+    let before = c.loop-steps.invariant in
+    let config = before.4 in
+    let ends = subst (λ limits. StepEnds answers waits limits c.take_step.result c.loop-steps.service c.take_step.new.service here new) config c.take_step.ensures.ends in
+    let first = AnswersFirst-step answers (config_of c.args.connection.now) c.loop-steps.steps c.args.connection.now c.loop-steps.connection c.args.service.now c.loop-steps.service c.take_step.new.service
+    new before.5 before.6 before.7 ends.first c.take_step.ensures.calls in
     let closed = c.in-Closed.is in
     record {
       read = Receives-then old here new (g.R.Read.remaining c.args.reader.now) (g.R.Read.remaining c.loop-steps.reader) (g.R.Read.remaining c.take_step.new.reader) c.loop-steps.invariant.0 c.in-Closed.ensures.read;
       written = Sends-then old here new (g.W.Write.contents c.args.writer.now) (g.W.Write.contents c.loop-steps.writer) (g.W.Write.contents c.take_step.new.writer) c.loop-steps.invariant.1 c.in-Closed.ensures.written;
       calls = Calls-then g.S.Service.answers _ _ _ _ _ _ c.loop-steps.invariant.2 c.in-Closed.ensures.calls;
       ends = record {
+        first = first;
         done = λ _. refl;
         quiet = λ is. cc;
         rests = λ moved is. cc;
+        closes = λ _. inr (ends.quiet (λ moved. cc)).1;
         held = λ is. cc;
         passed = λ _.
-            elim (c.take_step.ensures.ends.passed (λ held. cc)) [
-              | inl same ↦ inl (same ∙ c.loop-steps.invariant.3)
+            elim (ends.passed (λ held. cc)) [
+              | inl same ↦ inl (same ∙ before.3)
               | inr closed ↦ inr (refl, closed.1)
             ];
       };
@@ -116,11 +157,19 @@ returns-then-not-wants_write g c =
     let old = history c.args.connection.now in
     let here = history c.loop-steps.connection in
     let new = history c.take_step.new.connection in
+    let answers = g.S.Service.answers in
+    let waits = g.S.LastingService.waits in
+    let before = c.loop-steps.invariant in
+    let config = before.4 in
+    let ends = subst (λ limits. StepEnds answers waits limits c.take_step.result c.loop-steps.service c.take_step.new.service here new) config c.take_step.ensures.ends in
+    let first = AnswersFirst-step answers (config_of c.args.connection.now) c.loop-steps.steps c.args.connection.now c.loop-steps.connection c.args.service.now c.loop-steps.service c.take_step.new.service
+    new before.5 before.6 before.7 ends.first c.take_step.ensures.calls in
     record {
       read = Receives-then old here new (g.R.Read.remaining c.args.reader.now) (g.R.Read.remaining c.loop-steps.reader) (g.R.Read.remaining c.take_step.new.reader) c.loop-steps.invariant.0 c.take_step.ensures.read;
       written = Sends-then old here new (g.W.Write.contents c.args.writer.now) (g.W.Write.contents c.loop-steps.writer) (g.W.Write.contents c.take_step.new.writer) c.loop-steps.invariant.1 c.take_step.ensures.written;
       calls = Calls-then g.S.Service.answers _ _ _ _ _ _ c.loop-steps.invariant.2 c.take_step.ensures.calls;
-      ends = cut_short_ends (config_of c.take_step.new.connection) c.is_done.result c.cut_short.result old new _ _ c.cut_short.ensures c.is_done.ensures.1 (goes_on _ c.take_step.result _ _ _ _ c.in-Moved.is c.take_step.ensures.ends ∙ c.loop-steps.invariant.3);
+      ends = cut_short_ends answers waits (config_of c.args.connection.now) c.args.service.now c.take_step.new.service old new c.is_done.result c.cut_short.result c.cut_short.ensures c.is_done.ensures
+          (goes_on answers waits _ _ _ _ _ c.take_step.result c.in-Moved.is ends ∙ before.3) first;
       config = c.take_step.ensures.config ∙ c.loop-steps.invariant.4;
     }
 
@@ -129,7 +178,9 @@ returns g c = record {
   read = c.loop-steps.invariant.0;
   written = c.loop-steps.invariant.1;
   calls = c.loop-steps.invariant.2;
-  ends = cut_short_ends (config_of c.loop-steps.connection) c.is_done-2.result c.cut_short-2.result (history c.args.connection.now) (history c.loop-steps.connection) _ _ c.cut_short-2.ensures c.is_done-2.ensures.1 c.loop-steps.invariant.3;
+  ends = cut_short_ends g.S.Service.answers g.S.LastingService.waits (config_of c.args.connection.now) c.args.service.now c.loop-steps.service (history c.args.connection.now) (history c.loop-steps.connection)
+      c.is_done-2.result c.cut_short-2.result c.cut_short-2.ensures c.is_done-2.ensures c.loop-steps.invariant.3
+      (elim c.loop-steps.invariant.7 [ inl none ↦ absurd (omega (arith, none, c.loop-steps-test.false)) | inr first ↦ first ]);
   config = c.loop-steps.invariant.4;
 }
 
@@ -137,11 +188,20 @@ pub loop-steps-preserved : goal.loop-steps-preserved
 loop-steps-preserved g c =
     let old = history c.args.connection.now in
     let here = history c.loop-steps.connection in
-    let new = history c.take_step.new.connection in (
+    let new = history c.take_step.new.connection in
+    let answers = g.S.Service.answers in
+    let waits = g.S.LastingService.waits in
+    let before = c.loop-steps.invariant in
+    let config = before.4 in
+    let ends = subst (λ limits. StepEnds answers waits limits c.take_step.result c.loop-steps.service c.take_step.new.service here new) config c.take_step.ensures.ends in
+    let first = AnswersFirst-step answers (config_of c.args.connection.now) c.loop-steps.steps c.args.connection.now c.loop-steps.connection c.args.service.now c.loop-steps.service c.take_step.new.service
+    new before.5 before.6 before.7 ends.first c.take_step.ensures.calls in (
       Receives-then old here new (g.R.Read.remaining c.args.reader.now) (g.R.Read.remaining c.loop-steps.reader) (g.R.Read.remaining c.take_step.new.reader) c.loop-steps.invariant.0 c.take_step.ensures.read,
       Sends-then old here new (g.W.Write.contents c.args.writer.now) (g.W.Write.contents c.loop-steps.writer) (g.W.Write.contents c.take_step.new.writer) c.loop-steps.invariant.1 c.take_step.ensures.written,
       Calls-then g.S.Service.answers _ _ _ _ _ _ c.loop-steps.invariant.2 c.take_step.ensures.calls,
-      goes_on _ c.take_step.result _ _ _ _ c.in-Moved.is c.take_step.ensures.ends ∙ c.loop-steps.invariant.3,
+      goes_on answers waits _ _ _ _ _ c.take_step.result c.in-Moved.is ends ∙ before.3,
       c.take_step.ensures.config ∙ c.loop-steps.invariant.4,
       λ none. absurd (omega (arith, none)),
+      λ none. absurd (omega (arith, none)),
+      inr first,
     )

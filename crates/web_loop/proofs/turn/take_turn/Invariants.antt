@@ -1,7 +1,7 @@
-use Rattle.std.proofs.Common.{◌≡◌}
+use Rattle.std.proofs.Common.{◌≡◌, ◌⊎◌}
 use Rattle.http_server.specs.Connection.{config_of, history}
 use Rattle.http_server.specs.Exchange.{Calls}
-use Rattle.web_loop.specs.Turns.{Receives, Sends}
+use Rattle.web_loop.specs.Turns.{AnswersFirst, Receives, Sends}
 use Rattle.web_loop.proofs.turn.take_turn.Given as goal
 
 abbrev pub invariant-loop-steps : goal.invariant-loop-steps
@@ -12,3 +12,5 @@ invariant-loop-steps g l =
     × (g.S.LastingService.waits l.service ≡ g.S.LastingService.waits l.fn.service)
     × (config_of l.connection ≡ config_of l.fn.connection)
     × (l.steps ≡ 0 → l.connection ≡ l.fn.connection)
+    × (l.steps ≡ 0 → l.service ≡ l.fn.service)
+    × ((l.steps ≡ 0) ⊎ AnswersFirst g.S.Service.answers (config_of l.fn.connection) l.fn.service l.service (history l.fn.connection) (history l.connection))

@@ -20,6 +20,7 @@ returns-clause-admitted g c =
       comes_from = c.new.ensures.address;
       heard = c.new.ensures.heard;
       unheld = c.new.ensures.held;
+      rest = refl;
     }
 
 pub returns-clause-limits : goal.returns-clause-limits
