@@ -1,9 +1,12 @@
 -- One step of a connection after another.
-use Rattle.std.proofs.Common.{◌≡◌, ◌≢◌, ◌⊎◌, ◌<◌, inl, inr, refl, sym, subst, arith, ℕ, List, [], ◌∷◌, ◌++◌, length, Option, ap, ◌∙◌, append_assoc}
+use Rattle.std.proofs.Common.{◌≡◌, ◌≢◌, ◌⊎◌, ◌<◌, ◌≤◌, inl, inr, refl, sym, subst, arith, ℕ, Bool, true, false, ◌||◌, List, [], ◌∷◌, ◌++◌, length, length-append, Option, ap, ◌∙◌, append_assoc}
+use Rattle.std.proofs.lemmas.Bool.{true≢false}
 use Rattle.http_server.specs.History.{History, IsDone, IsQuiet, Rests}
 use Rattle.http.specs.declared.request.Request.{Request}
 use Rattle.http_server.specs.declared.response.Response.{Response}
 use Rattle.http_server.specs.declared.state.Config.{Config}
+use Rattle.http_server.specs.declared.state.State.{State}
+use Rattle.http_server.specs.declared.state.State.TheVariants.{Open, Closing, Upgraded, Aborted}
 use Rattle.http_server.specs.declared.connection.Connection.{Connection}
 use Rattle.http_server.specs.Connection.{config_of, history}
 use Rattle.http_server.specs.Exchange.{Calls}
@@ -11,7 +14,7 @@ use Rattle.http_server.proofs.StreamLemmas.{Calls-none, Calls-then}
 use Rattle.http_server.proofs.KnownLemmas.{Appends-then, Consumes-then}
 use Rattle.web_loop.specs.declared.turn.Step.{Step}
 use Rattle.web_loop.specs.declared.turn.Step.TheVariants.{Moved, Interrupted, Blocked, Held, Closed}
-use Rattle.web_loop.specs.Turns.{AnswersFirst, Receives, Sends, StepEnds}
+use Rattle.web_loop.specs.Turns.{is_moved, AnswersFirst, Grows, Receives, Sends, StepEnds}
 
 -- what was received in two parts
 pub Receives-then : (a b c : History) (u v w : Option (List ℕ)) → Receives a b u v → Receives b c v w → Receives a c u w
@@ -20,6 +23,57 @@ Receives-then a b c u v w x y = (
   Consumes-then u v w x.0 y.0 x.1 y.1,
   y.2 ∙ ap (λ (t : List ℕ). t ++ y.0) x.2 ∙ append_assoc a.received x.0 y.0,
 )
+
+-- what only grows: what was received and sent, and whether the end was found
+pub record OnlyGrows (old new : History) : Type 0 where
+  pub received : length old.received ≤ length new.received
+  pub sent : length old.sent ≤ length new.sent
+  pub ended : old.ended ≡ true → new.ended ≡ true
+
+pub only_grows : (a b : History) (r s w x : Option (List ℕ)) → Receives a b r s → Sends a b w x → (a.ended ≡ true → b.ended ≡ true) → OnlyGrows a b
+only_grows a b r s w x reads sends ended = record {
+  received = omega (arith, ap (λ (t : List ℕ). length t) reads.2, length-append a.received reads.0);
+  sent = omega (arith, ap (λ (t : List ℕ). length t) sends.2, length-append a.sent sends.0);
+  ended = ended;
+}
+
+-- what grew before, and what grew behind
+pub Grows-then : (a b c : History) → Grows a b → OnlyGrows b c → Grows a c
+Grows-then a b c (inl received) more = inl (omega (arith, received, more.received))
+Grows-then a b c (inr (inl sent)) more = inr (inl (omega (arith, sent, more.sent)))
+Grows-then a b c (inr (inr ended)) more = inr (inr (ended.0, more.ended ended.1))
+
+pub Grows-behind : (a b c : History) → OnlyGrows a b → Grows b c → Grows a c
+Grows-behind a b c before (inl received) = inl (omega (arith, received, before.received))
+Grows-behind a b c before (inr (inl sent)) = inr (inl (omega (arith, sent, before.sent)))
+Grows-behind a b c before (inr (inr ended)) = inr (inr (unended a.ended (λ e. let never = before.ended e in absurd (true≢false (sym never ∙ ended.0))), ended.1))
+  where
+    unended : (e : Bool) → ¬ (e ≡ true) → e ≡ false
+    unended true none = absurd (none refl)
+    unended false none = refl
+
+-- where nothing moved before, a step that does not is quiet, and where something did or does, the history grew
+pub quiet_still : (moved : Bool) (step : Step) (a b c : History) → (moved ≡ false → IsQuiet a b) → (step ≢ Moved → IsQuiet b c) → (moved || is_moved step) ≡ false → IsQuiet a c
+quiet_still true step a b c before now none = absurd (true≢false none)
+quiet_still false step a b c before now none =
+    let x = before refl in
+    let y = now (λ is. true≢false (sym (ap (λ (s : Step). is_moved s) is) ∙ none)) in
+    (y.0 ∙ x.0, y.1 ∙ x.1, y.2 ∙ x.2)
+
+pub grown : (moved : Bool) (step : Step) (a b c : History) → OnlyGrows a b → OnlyGrows b c → (moved ≡ true → Grows a b) → (step ≡ Moved → Grows b c) → (moved || is_moved step) ≡ true → Grows a c
+grown true step a b c first second before now some = Grows-then a b c (before refl) second
+grown false Moved a b c first second before now some = Grows-behind a b c first (now refl)
+grown false Interrupted a b c first second before now some = absurd (true≢false (sym some))
+grown false Blocked a b c first second before now some = absurd (true≢false (sym some))
+grown false Held a b c first second before now some = absurd (true≢false (sym some))
+grown false Closed a b c first second before now some = absurd (true≢false (sym some))
+
+-- a connection that is not done, with nothing pending, is open
+pub state_open : (state : State) → ¬ (state ≢ Open) → state ≡ Open
+state_open Open none = refl
+state_open (Closing reason) none = absurd (none (λ is. cc))
+state_open Upgraded none = absurd (none (λ is. cc))
+state_open Aborted none = absurd (none (λ is. cc))
 
 -- what was sent in two parts
 pub Sends-then : (a b c : History) (u v w : Option (List ℕ)) → Sends a b u v → Sends b c v w → Sends a c u w
@@ -86,12 +140,15 @@ module _ {S : Type 0} (answers : S → Request (List ℕ) → Response → S →
       done = λ done. absurd (open_still (subst IsDone same done));
       held = λ _. waited;
       passed = λ unheld. absurd (unheld held);
+      moved = λ moved. cc;
+      ended = λ ended. ap (λ (h : History). h.ended) same ∙ quiet.1 ∙ ended;
       reads = inl (ap (λ (h : History). h.received) same ∙ quiet.0);
     }
 
     module _ (same : waits after ≡ waits before) (unheld : step ≢ Held) (still : step ≢ Moved → new ≡ history mid) where
-      step_ends : (new.received ≡ old.received) ⊎ (new.pending ≡ []) → StepEnds answers waits config step before after old new
-      step_ends reads = record {
+      step_ends : (step ≡ Moved → Grows (history mid) new) → ((history mid).ended ≡ true → new.ended ≡ true) → (new.received ≡ old.received) ⊎ (new.pending ≡ [])
+          → StepEnds answers waits config step before after old new
+      step_ends grows ended reads = record {
         first = first_answered;
         quiet = λ unmoved. subst (λ (h : History). IsQuiet old h × Rests config h) (sym (still unmoved)) (quiet, rests);
         done = λ done.
@@ -101,16 +158,25 @@ module _ {S : Type 0} (answers : S → Request (List ℕ) → Response → S →
             ];
         held = λ held. absurd (unheld held);
         passed = λ _. inl same;
+        moved = λ moved. Grows-behind old (history mid) new (record { received = omega (arith, ap (λ (t : List ℕ). length t) quiet.0); sent = omega (arith, ap (λ (t : List ℕ). length t) quiet.2); ended = λ e. quiet.1 ∙ e }) (grows moved);
+        ended = λ e. ended (quiet.1 ∙ e);
         reads = reads;
       }
 
       -- a step that writes once
-      pub writes_once : new.received ≡ (history mid).received → StepEnds answers waits config step before after old new
-      writes_once received = step_ends (inl (received ∙ quiet.0))
+      pub writes_once : new.received ≡ (history mid).received → (step ≡ Moved → length (history mid).sent < length new.sent) → new.ended ≡ (history mid).ended
+          → StepEnds answers waits config step before after old new
+      writes_once received sent ended = step_ends (λ moved. inr (inl (sent moved))) (λ e. ended ∙ e) (inl (received ∙ quiet.0))
 
       -- one that reads once, with nothing pending
-      pub reads_once : new.pending ≡ (history mid).pending → ¬ (0 < length (history mid).pending) → StepEnds answers waits config step before after old new
-      reads_once pending none = step_ends (inr (pending ∙ none_there (history mid).pending none))
+      pub reads_once : new.pending ≡ (history mid).pending → ¬ (0 < length (history mid).pending)
+          → (step ≡ Moved → (length (history mid).received < length new.received) ⊎ (new.ended ≡ true)) → ((history mid).ended ≡ true → new.ended ≡ true)
+          → StepEnds answers waits config step before after old new
+      reads_once pending none moved ended =
+          let empty = none_there (history mid).pending none in
+          let short : length (history mid).pending ≡ 0 = ap (λ (t : List ℕ). length t) empty in
+          let unended = (rests (state_open (history mid).state (λ closed. open_still (closed, short))) (omega (arith, short))).0 in
+          step_ends (λ is. elim (moved is) [ inl received ↦ inl received | inr end ↦ inr (inr (unended, end)) ]) ended (inr (pending ∙ empty))
 
   -- a step that finds the connection done
   pub closes : step ≡ Closed → new ≡ history mid → IsDone (history mid) → StepEnds answers waits config step before after old new
@@ -120,5 +186,7 @@ module _ {S : Type 0} (answers : S → Request (List ℕ) → Response → S →
     done = λ _. inr closed;
     held = λ held. cc;
     passed = λ _. inr (closed, subst IsDone (sym same) done);
+    moved = λ moved. cc;
+    ended = λ ended. ap (λ (h : History). h.ended) same ∙ quiet.1 ∙ ended;
     reads = inl (ap (λ (h : History). h.received) same ∙ quiet.0);
   }

@@ -21,7 +21,7 @@ with_times (suc count) at times = with_time at (with_times count at times)
 abbrev pub is_slowed : ℕ → List ℕ → Bool
 is_slowed at times = length times == 10 && nat_lt (at - slice_index times 0) 60000
 
--- how long a slowed address waits, in milliseconds: a second for each offence of its last request, at least one and at most 60
+-- how long a slowed address waits, in milliseconds: a second for each offence of its last turn, at least one and at most 60
 abbrev pub wait_for : ℕ → ℕ
 wait_for wrong = 1000 * max 1 (min wrong 60)
 
@@ -46,7 +46,7 @@ waits address at known = list_any (is_waiting address at) known
 abbrev pub HasNoOffence : ℕ → Offender → Type 0
 HasNoOffence address offender = (offender.address ≡ address) × (offender.times.items ≡ []) × (offender.until ≡ 0)
 
--- after a request that was answered with so many offences: where ten came within the last minute, the address waits
+-- after a turn in which so many offences were answered: where ten came within the last minute, the address waits
 pub record IsAfter (wrong at : ℕ) (old new : Offender) : Type 0 where
   pub address : new.address ≡ old.address
   pub times : new.times.items ≡ with_times (min wrong 10) at old.times.items
@@ -57,7 +57,7 @@ abbrev pub IsRemembered : ℕ → ℕ → Offender → List Offender → List Of
 IsRemembered wrong at offender old new =
     (after : Offender) × IsAfter wrong at offender after × (new ≡ (if nat_lt (length old) 128 then old else drop 1 old) ++ after ∷ [])
 
--- A request of an address was answered with so many offences: the address is kept, whether it had a place or is new; an
+-- In a turn of an address so many offences were answered: the address is kept, whether it had a place or is new; an
 -- address without one, and without an offence, gets none.
 abbrev pub IsNoted : ℕ → ℕ → ℕ → List Offender → List Offender → Type 0
 IsNoted address wrong at old new =

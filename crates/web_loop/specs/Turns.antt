@@ -1,5 +1,5 @@
 -- What connections carry, and what becomes of the service that answers them.
-use Rattle.std.specs.Prelude.{◌≡◌, ◌≢◌, ◌⊎◌, [], ℕ, List, ◌++◌, Bool, true, false, Option}
+use Rattle.std.specs.Prelude.{◌≡◌, ◌≢◌, ◌⊎◌, ◌<◌, length, [], ℕ, List, ◌++◌, Bool, true, false, Option}
 use Rattle.std.specs.Io.KnownBytes.{Appends, Consumes}
 use Rattle.http.specs.declared.request.Request.{Request}
 use Rattle.http_server.specs.declared.response.Response.{Response}
@@ -50,6 +50,11 @@ pub record HoldsBack {S : Type 0} (answers : S → Request (List ℕ) → Respon
   pub calls : Calls answers between after (history mid).calls new.calls
   pub unsent : new.sent ≡ (history mid).sent
 
+-- Something was received or sent, or the end of what is received was found.
+abbrev pub Grows : History → History → Type 0
+Grows old new =
+    (length old.received < length new.received) ⊎ ((length old.sent < length new.sent) ⊎ ((old.ended ≡ false) × (new.ended ≡ true)))
+
 -- What a step did to its connection. Unless it moved it was quiet, and every whole request is answered as far as there is room. It
 -- reads only where nothing is pending.
 pub record StepEnds {S : Type 0} (answers : S → Request (List ℕ) → Response → S → Type 0) (waits : S → ℕ) (config : Config) (step : Step) (before after : S) (old new : History) : Type 0 where
@@ -58,6 +63,8 @@ pub record StepEnds {S : Type 0} (answers : S → Request (List ℕ) → Respons
   pub done : IsDone new → (step ≡ Moved) ⊎ (step ≡ Closed)
   pub held : step ≡ Held → waits after ≢ waits before
   pub passed : step ≢ Held → (waits after ≡ waits before) ⊎ ((step ≡ Closed) × IsDone new)
+  pub moved : step ≡ Moved → Grows old new
+  pub ended : old.ended ≡ true → new.ended ≡ true
   pub reads : (new.received ≡ old.received) ⊎ (new.pending ≡ [])
 
 -- What a turn did to its connection: it closes that where it is done, holds it where a request that waits was answered, and waits
@@ -66,10 +73,16 @@ pub record TurnEnds {S : Type 0} (answers : S → Request (List ℕ) → Respons
   pub first : AnswersFirst answers config before after old new
   pub done : IsDone new → turn ≡ Closes
   pub quiet : turn ≡ Waits false → IsQuiet old new
+  pub moved : turn ≡ Waits true → Grows old new
   pub rests : (moved : Bool) → turn ≡ Waits moved → Rests config new
   pub closes : turn ≡ Closes → IsDone new ⊎ Rests config new
   pub held : turn ≡ Holds → HoldsBack answers waits config before after new
   pub passed : turn ≢ Holds → (waits after ≡ waits before) ⊎ ((turn ≡ Closes) × IsDone new)
+
+-- whether a step read or wrote
+abbrev pub is_moved : Step → Bool
+is_moved Moved = true
+is_moved _ = false
 
 -- whether a client did something in its turn
 abbrev pub has_moved : Turn → Bool

@@ -71,8 +71,8 @@ impl Offender {
         self.times.is_full() && at.saturating_sub(self.times[0]) < MINUTE
     }
 
-    /// Takes a request into account that was answered with so many offences. Where ten came within the last minute, the
-    /// address waits: a second for each offence of this request, at least one and at most 60.
+    /// Takes a turn into account in which so many offences were answered. Where ten came within the last minute, the
+    /// address waits: a second for each offence of this turn, at least one and at most 60.
     pub(crate) fn note(&mut self, wrong: u64, at: u64)
         ensures times { self.new.times.items ≡ with_times (min wrong 10) at self.old.times.items }
         ensures until { self.new.until ≡ (if is_slowed at self.new.times.items then min (at + wait_for wrong) 18446744073709551615 else self.old.until) }

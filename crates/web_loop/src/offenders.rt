@@ -71,8 +71,8 @@ impl Offenders {
             .position(|offender| offender.address == address)
     }
 
-    /// Takes a request of an address into account that was answered with so many offences. After ten within a minute the
-    /// address waits, a second for each of this request, at least one and at most 60. An address that is new to the table
+    /// Takes a turn of an address into account, in which so many offences were answered. After ten within a minute the
+    /// address waits, a second for each of this turn, at least one and at most 60. An address that is new to the table
     /// takes the place of the one that was heard the longest ago, where there are 128.
     pub fn note(&mut self, address: IpAddr, wrong: u64, now: Instant)
         ensures table { IsNoted (address_number address) wrong (millis self.old.begun now) self.old.known.items self.new.known.items }
@@ -90,7 +90,7 @@ impl Offenders {
         }
     }
 
-    /// Keeps an address, once a request of it is taken into account.
+    /// Keeps an address, once a turn of it is taken into account.
     fn keep(&mut self, mut offender: Offender, wrong: u64, at: u64)
         ensures table { IsRemembered wrong at offender self.old.known.items self.new.known.items }
         ensures begun { self.new.begun ≡ self.old.begun }

@@ -2,7 +2,7 @@
 ghost use Rattle.std.specs.Prelude.{◌≡◌, ◌≢◌, ◌⊎◌, ◌<◌, true, length, if◌then◌else◌};
 ghost use Rattle.http_server.specs.Connection.{config_of, history};
 ghost use Rattle.http_server.specs.Exchange.{Calls};
-ghost use Rattle.web_loop.specs.Turns.{has_moved, step_of, Receives, Sends, StepEnds, TurnEnds};
+ghost use Rattle.web_loop.specs.Turns.{has_moved, is_moved, step_of, Receives, Sends, StepEnds, TurnEnds};
 
 use crate::service::LastingService;
 use http_server::Connection;
@@ -16,7 +16,7 @@ const MOST_STEPS: usize = 64;
 pub enum Turn {
     /// The peer gives no more for now, or takes no more.
     Waits {
-        /// Whether it read, wrote or was interrupted before.
+        /// Whether it read or wrote before.
         moved: bool,
     },
     /// It took as many steps as a turn may, or answered an offence, and has more to do.
@@ -55,6 +55,13 @@ enum Step {
 }
 
 impl Step {
+    /// Whether it read or wrote.
+    fn is_moved(self) -> bool
+        ensures { result ≡ is_moved self }
+    {
+        matches!(self, Step::Moved)
+    }
+
     /// What a step did that failed so.
     fn failed(kind: ErrorKind) -> Step
         ensures { result ≡ step_of kind }
@@ -73,7 +80,8 @@ fn write_once<W: Write>(connection: &mut Connection, writer: &mut W) -> Step
     ensures written { Sends (history connection.old) (history connection.new) (W.contents writer.old) (W.contents writer.new) }
     ensures received { (history connection.new).received ≡ (history connection.old).received }
     ensures calls { (history connection.new).calls ≡ (history connection.old).calls }
-    ensures moved { result ≡ Step.Moved → length (history connection.new).pending < length (history connection.old).pending }
+    ensures moved { result ≡ Step.Moved → length (history connection.old).sent < length (history connection.new).sent }
+    ensures ended { (history connection.new).ended ≡ (history connection.old).ended }
     ensures still { result ≢ Step.Moved → history connection.new ≡ history connection.old }
     ensures unheld { result ≢ Step.Held }
     ensures config { config_of connection.new ≡ config_of connection.old }
@@ -92,6 +100,7 @@ fn read_once<R: Read>(connection: &mut Connection, reader: &mut R) -> Step
     ensures calls { (history connection.new).calls ≡ (history connection.old).calls }
     ensures moved { result ≡ Step.Moved → (length (history connection.old).received < length (history connection.new).received)
         ⊎ ((history connection.new).ended ≡ true) }
+    ensures ended { (history connection.old).ended ≡ true → (history connection.new).ended ≡ true }
     ensures still { result ≢ Step.Moved → history connection.new ≡ history connection.old }
     ensures unheld { result ≢ Step.Held }
     ensures pending { (history connection.new).pending ≡ (history connection.old).pending }
@@ -159,10 +168,13 @@ pub fn take_turn<S: LastingService, R: Read, W: Write>(
     ensures config { config_of connection.new ≡ config_of connection.old }
 {
     let before = service.offences();
-    for steps in 0..MOST_STEPS {
-        match take_step(connection, service, reader, writer) {
+    let mut moved = false;
+    for _ in 0..MOST_STEPS {
+        let step = take_step(connection, service, reader, writer);
+        moved |= step.is_moved();
+        match step {
             Step::Moved | Step::Interrupted => {}
-            Step::Blocked => return Turn::Waits { moved: steps > 0 },
+            Step::Blocked => return Turn::Waits { moved },
             Step::Held => return Turn::Holds,
             Step::Closed => return Turn::Closes,
         }

@@ -29,7 +29,7 @@ returns-then-wants_write-clause-ends g c =
     config c.advance.ensures.quiet (subst (λ limits. Rests limits (history c.advance.new.self)) config c.advance.ensures.rests) c.advance.ensures.calls c.write_once.ensures.calls
     (λ done. absurd (true≢false (sym (c.is_done.ensures.1 done) ∙ c.if-is_done.false)))
     (grind (arith, nat_tests, c.waits.ensures, c.waits-before.ensures, c.if-waits-before.false))
-    c.write_once.ensures.unheld c.write_once.ensures.still c.write_once.ensures.received
+    c.write_once.ensures.unheld c.write_once.ensures.still c.write_once.ensures.received c.write_once.ensures.moved c.write_once.ensures.ended
 
 pub returns-else-wants_write-clause-ends : goal.returns-else-wants_write-clause-ends
 returns-else-wants_write-clause-ends g c =
@@ -40,4 +40,4 @@ returns-else-wants_write-clause-ends g c =
     (λ done. absurd (true≢false (sym (c.is_done.ensures.1 done) ∙ c.if-is_done.false)))
     (grind (arith, nat_tests, c.waits.ensures, c.waits-before.ensures, c.if-waits-before.false))
     c.read_once.ensures.unheld c.read_once.ensures.still
-    c.read_once.ensures.pending (λ some. absurd (true≢false (sym (c.wants_write.ensures.1 some) ∙ c.if-wants_write.false)))
+    c.read_once.ensures.pending (λ some. absurd (true≢false (sym (c.wants_write.ensures.1 some) ∙ c.if-wants_write.false))) c.read_once.ensures.moved c.read_once.ensures.ended
