@@ -1,5 +1,5 @@
 -- The fields of a part are read back from its bytes, and only from these.
-use Rattle.std.proofs.Common.{◌≡◌, ◌≢◌, IfSome, IfNone, ◌+◌, ◌<◌, ◌≤◌, ◌^◌, nat_lt, ℕ, Bool, false, List, [], ◌∷◌, ◌++◌, length, take, drop, map, Option, Some, None, refl, sym, ap, ◌∙◌, subst, arith, inl, inr, length-append, append_assoc}
+use Rattle.std.proofs.Common.{◌≡◌, ◌≢◌, IfSome, IfNone, ◌<◌, ◌≤◌, ◌^◌, nat_lt, ℕ, Bool, false, List, [], ◌∷◌, ◌++◌, length, take, drop, map, Option, Some, None, refl, sym, ap, ◌∙◌, subst, arith, inl, inr, length-append, append_assoc}
 use Rattle.std.specs.Prelude.{option_and_then}
 use Rattle.std.specs.Int.{w16, to_be_bytes, from_be_bytes}
 use Rattle.std.specs.Option.{option_map}

@@ -1,5 +1,5 @@
 -- Opening a pair of disks.
-use Rattle.std.proofs.Common.{◌≡◌, ◌≢◌, ◌<◌, ◌≤◌, ◌+◌, ◌-◌, ℕ, List, [], ◌++◌, Option, Some, None, Ok, Err, inl, inr, ⊎_elim, refl, sym, ap, subst, ◌∙◌, arith}
+use Rattle.std.proofs.Common.{◌≡◌, ◌≢◌, ◌<◌, ◌≤◌, ◌+◌, ℕ, List, [], ◌++◌, Option, Some, None, Ok, Err, inl, inr, ⊎_elim, refl, sym, ap, subst, ◌∙◌, arith}
 use Rattle.sector_disk.specs.Disk.{Image, Disk, Rose}
 use Rattle.sector_disk.specs.Runs.{EveryMoment, Quiet}
 use Rattle.sector_disk.proofs.ImageLaws.{image_is}

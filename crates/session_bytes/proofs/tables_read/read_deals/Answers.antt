@@ -1,4 +1,4 @@
-use Rattle.std.proofs.Common.{◌+◌, ◌∷◌, ◌++◌, [], ◌∙◌, map, take, sym, ap, subst, arith}
+use Rattle.std.proofs.Common.{◌∷◌, ◌++◌, [], ◌∙◌, map, take, sym, ap, subst, arith}
 use Rattle.std.proofs.lemmas.List.{map-append}
 use Rattle.std.proofs.lemmas.List.Elements.{All-push}
 use Rattle.session_bytes.specs.Parts.{deal_part}
